@@ -1,0 +1,4 @@
+pub mod Shares
+pub mod Answer
+pub mod Laws
+pub mod Claims

@@ -1,0 +1,9 @@
+pub mod Groups
+pub mod NumberLaws
+pub mod KindLaws
+pub mod Bodies
+pub mod BodyLaws
+pub mod RecordLaws
+pub mod ReadingLaws
+pub mod RunLaws
+pub mod ShortestForms

@@ -1,0 +1,9 @@
+use mathlib.Core.Path.{ap}
+use native.Mathlib.Omega.{arith}
+use Rattle.recording.specs.declared.kinds.RecordKind.the-variants.{Set}
+use Rattle.recording.specs.Contents.{numbered}
+use Rattle.recording.proofs.Bodies.{all-numbers}
+use Rattle.recording.proofs.records.set_record.Needs as need
+
+pub returns : need.returns
+returns c = ap (numbered Set) (all-numbers 6 (c .args .numbers) (omega arith))

@@ -1,0 +1,9 @@
+pub mod Exactly
+pub mod Numbers
+pub mod Kinds
+pub mod Contents
+pub mod Conditions
+pub mod Records
+pub mod Whole
+pub mod Reading
+pub mod Runs

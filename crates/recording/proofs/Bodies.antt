@@ -1,6 +1,6 @@
 -- What is read of a body, number by number.
 use mathlib.Core.Path.{_≡_, refl, sym, ap, _∙_}
-use mathlib.Core.Bool.{true, false, _&&_, cond}
+use mathlib.Core.Bool.{Bool, true, false, _&&_, cond}
 use mathlib.Core.List.{List, [], _∷_, _++_, append-assoc, append-nil}
 use Prim.Native.Nat.{ℕ, zero, suc, _+_, _-_, _≤_, _<_}
 use native.Mathlib.Omega.{arith}
@@ -29,14 +29,11 @@ module _ (bs : List ℕ) (i : ℕ) (h : i < length bs) where
   text-step : is-printable (drop i bs) ≡ (leb 32 (getD bs i 0) && leb (getD bs i 0) 126) && is-printable (drop (i + 1) bs)
   text-step = at-drop-more is-printable bs i 0 h
 
-  pub text-on : 32 ≤ getD bs i 0 → getD bs i 0 ≤ 126 → is-printable (drop i bs) ≡ is-printable (drop (i + 1) bs)
-  text-on low high = let e = text-step in grind (arith, tells)
+  pub text-on : (leb 0x20 (getD bs i 0) && leb (getD bs i 0) 0x7E) ≡ true → is-printable (drop i bs) ≡ is-printable (drop (i + 1) bs)
+  text-on t = text-step ∙ ap (λ (b : Bool). b && is-printable (drop (i + 1) bs)) t
 
-  pub text-low : getD bs i 0 < 32 → is-printable (drop i bs) ≡ false
-  text-low low = let e = text-step in grind (arith, tells)
-
-  pub text-high : 126 < getD bs i 0 → is-printable (drop i bs) ≡ false
-  text-high high = let e = text-step in grind (arith, tells)
+  pub text-off : (leb 0x20 (getD bs i 0) && leb (getD bs i 0) 0x7E) ≡ false → is-printable (drop i bs) ≡ false
+  text-off t = text-step ∙ ap (λ (b : Bool). b && is-printable (drop (i + 1) bs)) t
 
 -- the numbers of a list, one by one
 abbrev pub each-number : ℕ → ℕ → List ℕ → List ℕ

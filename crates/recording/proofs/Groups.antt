@@ -9,7 +9,8 @@ use Rattle.std.proofs.shelf.Parts.{between-to-end}
 use Rattle.std.proofs.shelf.Tests.{lt-ltb, le-ltb, le-leb, eq-eqb, ne-eqb, cond-true, cond-false}
 use Rattle.std.proofs.shelf.Ways.{tells}
 use Rattle.faults.specs.Faults.{truncated-number, malformed-number}
-use Rattle.recording.specs.Numbers.{NumberRead, got, fails, join, groups}
+use Rattle.recording.specs.Numbers.{NumberRead, got, fails, joined-number, with-rest, join, groups}
+use Rattle.std.specs.declared.result.Result.the-variants.{Ok, Err}
 
 pub tail : (b : ℕ) (bs : List ℕ) → between 1 (length (b ∷ bs)) (b ∷ bs) ≡ bs
 tail b bs = between-to-end (b ∷ bs) 1 (length (b ∷ bs)) (omega arith)
@@ -33,10 +34,10 @@ module _ (place : ℕ) where
       rw (e, tail b bs) (sym (cond-false _ _ _ (le-ltb b 128 t)))
 
   pub none-above : (low high : ℕ) (rest : List ℕ) → high ≡ 0 → join place low (got high rest) ≡ fails (malformed-number place)
-  none-above low high rest e = cond-true _ _ _ (eq-eqb high 0 e)
+  none-above low high rest e = ap (with-rest rest) (cond-true _ _ _ (eq-eqb high 0 e))
 
   pub over : (low high : ℕ) (rest : List ℕ) → 4294967295 < high * 128 + low → join place low (got high rest) ≡ fails (malformed-number place)
-  over low high rest h = grind (arith, tells)
+  over low high rest h = let e : joined-number place low high ≡ Err (malformed-number place) = grind (arith, tells) in ap (with-rest rest) e
 
   pub joins : (low high : ℕ) (rest : List ℕ) → (high ≡ 0 → ⊥) → high * 128 + low ≤ 4294967295 → join place low (got high rest) ≡ got (high * 128 + low) rest
-  joins low high rest n h = cond-false _ _ _ (ne-eqb high 0 n) ∙ cond-true _ _ _ (le-leb (high * 128 + low) 4294967295 h)
+  joins low high rest n h = ap (with-rest rest) (cond-false _ _ _ (ne-eqb high 0 n) ∙ cond-true _ _ _ (le-leb (high * 128 + low) 4294967295 h))

@@ -66,10 +66,17 @@ number-read (Ok n) = got (n .value) (n .rest .now)
 number-read (Err fault) = fails fault
 
 -- the lowest group, and the number that the groups above it hold
+abbrev pub joined-number : ℕ → ℕ → ℕ → Result ℕ NumberFault
+joined-number place low high =
+    cond (eqb high 0) (Err (malformed-number place))
+    (cond (leb (high * 128 + low) 4294967295) (Ok (high * 128 + low)) (Err (malformed-number place)))
+
+abbrev pub with-rest : List ℕ → Result ℕ NumberFault → NumberRead
+with-rest rest (Ok n) = got n rest
+with-rest rest (Err fault) = fails fault
+
 abbrev pub join : ℕ → ℕ → NumberRead → NumberRead
-join place low (got high rest) =
-    cond (eqb high 0) (fails (malformed-number place))
-    (cond (leb (high * 128 + low) 4294967295) (got (high * 128 + low) rest) (fails (malformed-number place)))
+join place low (got high rest) = with-rest rest (joined-number place low high)
 join place low (fails fault) = fails fault
 
 -- the number of at most k groups at the front of the bytes

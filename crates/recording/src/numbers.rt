@@ -1,7 +1,7 @@
 // A number is groups of seven bits, lowest group first, the top bit set on all bytes but the last.
 ghost use mathlib.Core.Path.{_≡_};
 ghost use lib.IntN.{pos, _-ℤ_};
-ghost use Rattle.recording.specs.Numbers.{groups, number-at, number-read, ShortestNumber, ReadExactly, ReadsBack};
+ghost use Rattle.recording.specs.Numbers.{joined-number, groups, number-at, number-read, ShortestNumber, ReadExactly, ReadsBack};
 use faults::NumberFault;
 use faults::NumberFaultKind;
 
@@ -10,6 +10,23 @@ use faults::NumberFaultKind;
 pub struct Number<'a> {
     pub value: u32,
     pub rest: &'a [u8],
+}
+
+/// The number of a lowest group and the number that the groups above it hold. It is not in its shortest form where those hold 0.
+fn joined(above: u32, low: u8, place: usize) -> Result<u32, NumberFault>
+    ensures { λ r. ⌜ r ≡ joined-number place low above ⌝ }
+{
+    let value = above as u64 * 128 + low as u64;
+    let shortest = above != 0;
+    let fits = value <= 4_294_967_295;
+    if shortest && fits {
+        Ok(value as u32)
+    } else {
+        Err(NumberFault {
+            place,
+            kind: NumberFaultKind::Malformed,
+        })
+    }
 }
 
 /// The number of at most `left` groups at the front of `bytes`.
@@ -36,19 +53,18 @@ fn read_groups<'a>(bytes: &'a [u8], left: u8, place: usize) -> Result<Number<'a>
         });
     }
     let above = read_groups(rest, left - 1, place)?;
-    let value = above.value as u64 * 128 + (group - 128) as u64;
-    let shortest = above.value != 0;
-    let fits = value <= 4_294_967_295;
-    if !shortest || !fits {
-        return Err(NumberFault {
-            place,
-            kind: NumberFaultKind::Malformed,
-        });
-    }
+    let value = joined(above.value, group - 128, place)?;
     Ok(Number {
-        value: value as u32,
+        value,
         rest: above.rest,
     })
+}
+
+/// A number has at most five bytes.
+fn read_five<'a>(bytes: &'a [u8], place: usize) -> Result<Number<'a>, NumberFault>
+    ensures { λ r. ⌜ number-read r ≡ number-at place (now (bytes .entry)) ⌝ }
+{
+    read_groups(bytes, 5, place)
 }
 
 /// The number at the front of `bytes`, which lie in the record at `place`.
@@ -58,7 +74,7 @@ pub fn read_number<'a>(bytes: &'a [u8], place: usize) -> Result<Number<'a>, Numb
     ensures shortest_number { λ _. ⌜ ShortestNumber ⌝ }
     ensures reads_back { λ _. ⌜ ReadsBack place ⌝ }
 {
-    read_groups(bytes, 5, place)
+    read_five(bytes, place)
 }
 
 /// What a recorded number with 2000 added means.

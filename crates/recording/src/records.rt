@@ -1,5 +1,7 @@
 // A record is a length and a body of that many bytes: a letter, and its numbers or a note's text.
 ghost use mathlib.Core.Path.{_≡_};
+ghost use mathlib.Core.Bool.{_&&_};
+ghost use lib.Dec.{leb};
 ghost use Rattle.recording.specs.declared.kinds.RecordKind.the-variants.{Set as SetKind, Shares as SharesKind, Loss as LossKind, Command as CommandKind, Want as WantKind};
 ghost use Rattle.recording.specs.Contents.{Content, numbered, content, content-kind, out-of-place, open-after};
 ghost use Rattle.recording.specs.Records.{numbers-at, is-printable, text-at, body-read, body-at, record-at, RecordExactly};
@@ -182,12 +184,19 @@ const FIRST_PRINTABLE: u8 = 0x20;
 
 const LAST_PRINTABLE: u8 = 0x7e;
 
+/// Whether a byte is a printable character of ASCII.
+fn is_printable(byte: u8) -> bool
+    ensures { λ r. ⌜ r ≡ (leb 0x20 byte && leb byte 0x7E) ⌝ }
+{
+    FIRST_PRINTABLE <= byte && byte <= LAST_PRINTABLE
+}
+
 /// Whether each byte is a printable character of ASCII.
 fn is_text(bytes: &[u8]) -> bool
     ensures { λ r. ⌜ r ≡ is-printable (now (bytes .entry)) ⌝ }
 {
     for b in bytes {
-        if *b < FIRST_PRINTABLE || *b > LAST_PRINTABLE {
+        if !is_printable(*b) {
             return false;
         }
     }

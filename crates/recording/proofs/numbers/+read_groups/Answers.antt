@@ -6,8 +6,8 @@ use borrow.Author.Tests.{ltb-true, ltb-false}
 use lib.ListN.{length, getD}
 use Rattle.std.specs.shelf.Lists.{between}
 use Rattle.std.proofs.shelf.Results.{err-from-errBy}
-use Rattle.recording.specs.Numbers.{join, groups}
-use Rattle.recording.proofs.Groups.{empty, last, more, none-above, over, joins}
+use Rattle.recording.specs.Numbers.{join, with-rest, groups}
+use Rattle.recording.proofs.Groups.{empty, last, more}
 use Rattle.recording.proofs.numbers.+read_groups.Needs as need
 use Rattle.recording.proofs.numbers.+read_groups.Needs.{Else-group-lt128}
 
@@ -26,14 +26,15 @@ returns-in-Break-above t c =
     let p = err-from-errBy (c .from-residual .result) (c .from-residual .ensures .1) in
     rw (p .1, p .2) (ap (join (c .args .place) (getD (c .args .bytes .now) 0 0 - 128)) (c .in-Break-above .ensures tt) ∙ on t (need.at·returns-in-Break-above t c .Else-group-lt128))
 
-pub returns-then-not-shortest : need.returns-then-not-shortest
-returns-then-not-shortest t c =
-    sym (⊎-elim (λ e. none-above _ _ _ _ e) (λ p. over _ _ _ _ (p .1)) (c .then-not-shortest .either)) ∙
+pub returns-in-Break-value : need.returns-in-Break-value
+returns-in-Break-value t c =
+    let p = err-from-errBy (c .from-residual-in-Break-value .result) (c .from-residual-in-Break-value .ensures .1) in
+    rw (p .1, p .2) (ap (with-rest (c .in-Continue-above .above .rest .now)) (c .in-Break-value .ensures tt) ∙
     ap (join (c .args .place) (getD (c .args .bytes .now) 0 0 - 128)) (c .in-Continue-above .ensures tt) ∙
-    on t (need.at·returns-then-not-shortest t c .Else-group-lt128)
+    on t (need.at·returns-in-Break-value t c .Else-group-lt128))
 
 pub returns : need.returns
 returns t c =
-    sym (joins _ _ _ _ (c .if-not-shortest .left) (c .if-not-fits .left)) ∙
+    ap (with-rest (c .in-Continue-above .above .rest .now)) (c .in-Continue-value .ensures tt) ∙
     ap (join (c .args .place) (getD (c .args .bytes .now) 0 0 - 128)) (c .in-Continue-above .ensures tt) ∙
     on t (need.at·returns t c .Else-group-lt128)

@@ -7,8 +7,8 @@ use Rattle.recording.proofs.numbers.read_number.Needs as need
 
 pub returns : need.returns
 returns c = record {
-  answer = c .read-groups .ensures;
-  read-exactly = subst (ReadExactly (c .args .place) (c .args .bytes .now)) (sym (c .read-groups .ensures)) (read-exactly (c .args .place) (c .args .bytes .now) (λ i. omega (arith, c .typed .bytes i)));
+  answer = c .read-five .ensures;
+  read-exactly = subst (ReadExactly (c .args .place) (c .args .bytes .now)) (sym (c .read-five .ensures)) (read-exactly (c .args .place) (c .args .bytes .now) (λ i. omega (arith, c .typed .bytes i)));
   shortest-number = shortest-number;
   reads-back = reads-back (c .args .place);
 }

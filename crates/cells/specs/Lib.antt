@@ -1,0 +1,12 @@
+pub mod Numbers
+pub mod Kinds
+pub mod Ranges
+pub mod WantRanges
+pub mod Cells
+pub mod Commands
+pub mod Waiting
+pub mod Powers
+pub mod Promises
+pub mod Loops
+pub mod LoopRule
+pub mod Every

@@ -1,0 +1,34 @@
+// A cell's settings, loops and waiting commands, and the powers that it wants in nanowatts.
+mod cell;
+mod commands;
+mod every;
+mod loops;
+mod powers;
+mod ranges;
+mod settings;
+mod waiting;
+mod wants;
+
+pub use cell::Cell;
+pub use commands::Channel;
+pub use commands::Command;
+pub use commands::RawCommand;
+pub use commands::TpcCommand;
+pub use commands::step;
+pub use every::move_all;
+pub use every::wanted_all;
+pub use powers::DataValues;
+pub use powers::Powers;
+pub use powers::data_want;
+pub use ranges::checked_loss;
+pub use settings::LoopKind;
+pub use settings::RawSettings;
+pub use settings::Settings;
+pub use wants::CellWants;
+pub use wants::ControlFormat;
+pub use wants::ControlWant;
+pub use wants::DataWant;
+pub use wants::RawWant;
+pub use wants::SoundingWant;
+pub use wants::Want;
+pub use wants::WantKind;

@@ -1,0 +1,5 @@
+pub mod Fours
+pub mod Bounds
+pub mod Settles
+pub mod Adding
+pub mod AddsUp

@@ -1,0 +1,4 @@
+pub mod Classes
+pub mod Grants
+pub mod Outcomes
+pub mod AddUp

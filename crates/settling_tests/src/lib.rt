@@ -1,0 +1,3 @@
+// Tests of settled subframes: powers worked out by hand.
+#[cfg(test)]
+mod subframes;

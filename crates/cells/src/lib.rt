@@ -1,4 +1,7 @@
 // A cell's settings, loops and waiting commands, and the powers that it wants in nanowatts.
+
+#![tactic(auto)]
+
 mod cell;
 mod commands;
 mod every;

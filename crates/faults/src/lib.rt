@@ -1,4 +1,7 @@
 // The faults of a recording. Each keeps its place, the first byte of its record, and has a layer and a number.
+
+#![tactic(auto)]
+
 ghost use Rattle.std.specs.Prelude.{◌≡◌};
 ghost use Rattle.faults.specs.declared.RecordFault.TheVariants.{Number};
 ghost use Rattle.faults.specs.Faults.{layer_letter, number_fault_number, fault_place, fault_layer, fault_number, ends_run};

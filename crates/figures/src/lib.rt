@@ -1,4 +1,7 @@
 // Figures worked out on the bench by hand: one list, and one statement over the whole list.
+
+#![tactic(auto)]
+
 ghost use Rattle.std.specs.Prelude.{◌≡◌};
 ghost use Rattle.std.specs.List.{AllByRecursion as All};
 ghost use Rattle.figures.specs.Figures.{bench_list, Right};

@@ -1,4 +1,7 @@
 // Lists a recording from standard input, record by record: at most its first 65,536 bytes.
+
+#![tactic(auto)]
+
 use listing::print_listing;
 use std::io;
 use std::io::Read;

@@ -1,4 +1,7 @@
 // A level, a whole number of tenths of a dBm, and the power that it stands for in whole nanowatts.
+
+#![tactic(auto)]
+
 ghost use Rattle.std.specs.Prelude.{◌≡◌, ◌<◌, ◌≤◌, min, pos, negsuc, ◌≤ℤ◌, slice_index};
 ghost use Rattle.levels.specs.Levels.{LargestMantissas, LargestWholeNanowatts, MantissaTimesPowerOfTen, RisesWithLevel, level_of, mantissas, power, scaled, steps, written_mantissas};
 

@@ -1,4 +1,7 @@
 // What a played recording prints: a line for each settled subframe, and one for each fault.
+
+#![tactic(auto)]
+
 mod fault;
 mod line;
 mod text;

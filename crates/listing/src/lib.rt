@@ -1,4 +1,7 @@
 // A recording as text: a line for each record or fault.
+
+#![tactic(auto)]
+
 mod lines;
 mod printing;
 

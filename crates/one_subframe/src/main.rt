@@ -1,4 +1,7 @@
 // Shares one subframe under both holding rules and prints all of it, line by line.
+
+#![tactic(auto)]
+
 use anyhow::anyhow;
 use levels::Level;
 use sharing::{

@@ -1,4 +1,7 @@
 // A recording played on a terminal.
+
+#![tactic(auto)]
+
 mod record;
 mod whole;
 

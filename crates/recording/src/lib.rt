@@ -1,4 +1,7 @@
 // Recordings: the bytes that a returned box brings with it, read record by record.
+
+#![tactic(auto)]
+
 mod kinds;
 mod numbers;
 mod reader;

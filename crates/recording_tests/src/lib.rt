@@ -1,4 +1,7 @@
 // Recordings with their faults, as one table, and the edges of numbers and notes.
+
+#![tactic(auto)]
+
 #[cfg(test)]
 mod tests {
     use recording::*;

@@ -1,4 +1,7 @@
 // Why a call is refused, and which of several reasons is the one that is answered.
+
+#![tactic(auto)]
+
 ghost use Rattle.std.specs.Prelude.{◌≡◌};
 ghost use Rattle.refusals.specs.Numbers.{number_of};
 ghost use Rattle.refusals.specs.First.{refusal_if, or_else, first_that_holds, FirstThatHolds};

@@ -1,4 +1,7 @@
 // A subframe settled: what each cell and each group wanted, and what they were granted.
+
+#![tactic(auto)]
+
 mod classes;
 mod grants;
 mod outcome;

@@ -1,4 +1,7 @@
 // One total shared by two cell groups, rank by rank, while each group holds a reserve of its guarantee.
+
+#![tactic(auto)]
+
 mod budget;
 mod demand;
 mod groups;

@@ -1,4 +1,7 @@
 // The exact split of one room among claims: no nanowatt lost, none made up.
+
+#![tactic(auto)]
+
 ghost use Rattle.std.specs.Prelude.{◌≡◌, ◌<◌, ◌≤◌, true, map, length, Err, OnOk, nat_le};
 ghost use Rattle.split.specs.Shares.{sum_of, rounded_down, extra, with_leftovers, split_of, all_within, with_grants};
 ghost use Rattle.split.specs.Answer.{allowed, answer, after};

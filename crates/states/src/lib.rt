@@ -1,4 +1,7 @@
 // What a terminal keeps, as plain values, and which calls it accepts.
+
+#![tactic(auto)]
+
 mod admission;
 mod shares;
 mod state;

@@ -1,4 +1,7 @@
 // A terminal that shares one total between two cell groups under a holding rule, subframe by subframe.
+
+#![tactic(auto)]
+
 mod call;
 mod calls;
 mod changes;

@@ -1,4 +1,7 @@
 // Tests of the terminal: answers worked out by hand, and calls answered by another program.
+
+#![tactic(auto)]
+
 #[cfg(test)]
 mod commands;
 #[cfg(test)]

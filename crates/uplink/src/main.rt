@@ -1,4 +1,7 @@
 // Plays a recording from standard input on a terminal under the aligned rule: at most its first 65,536 bytes.
+
+#![tactic(auto)]
+
 use player::play_text;
 use sharing::Aligned;
 use std::io;

@@ -1,4 +1,7 @@
 // Plays recordings and compares what is printed, byte for byte, with what an independent program worked out.
+
+#![tactic(auto)]
+
 use player::play_text;
 use sharing::Aligned;
 use std::fs;

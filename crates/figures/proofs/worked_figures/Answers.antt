@@ -11,6 +11,6 @@ all_right = (refl, (refl, (refl, (refl, (refl, (refl, (refl, (refl, (refl, (refl
 
 pub returns : goal.returns
 returns c = record {
-  listed = c.written-list.ensures;
-  worked-figures = subst (λ (fs : List Figure). All Right fs) (sym c.written-list.ensures) all_right;
+  listed = c.written_list.ensures;
+  worked_figures = subst (λ (fs : List Figure). All Right fs) (sym c.written_list.ensures) all_right;
 }

@@ -6,5 +6,5 @@ use Rattle.levels.proofs.mantissas.Goals as goal
 pub returns : goal.returns
 unfolding mantissas
 returns c =
-    let is : c.written-table.result ≡ mantissas = c.written-table.ensures in
+    let is : c.written_table.result ≡ mantissas = c.written_table.ensures in
     record { table = is; largest_mantissas = subst (λ (t : List ℕ). LargestMantissas 100 t) (sym is) largest_mantissas }

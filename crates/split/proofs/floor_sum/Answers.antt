@@ -5,8 +5,8 @@ use Rattle.split.proofs.Exact.{floors_room}
 use Rattle.split.proofs.Allowed.{wants_parts, scaled_bound}
 use Rattle.split.proofs.floor_sum.Goals as goal
 
-pub overflow-mul-sum : goal.overflow-mul-sum
-overflow-mul-sum g c =
+pub overflow_mul-sum : goal.overflow_mul-sum
+overflow_mul-sum g c =
     let asks = g.C.Claim.asks in
     let cs = c.args.claims.now in
     let i = c.loop-claim.claim-index in
@@ -14,8 +14,8 @@ overflow-mul-sum g c =
     let parts = wants_parts c.want.result (map asks (drop (i + 1) cs)) (sym next ∙ c.loop-claim.invariant.0) in
     omega (arith, scaled_bound c.want.result c.args.room parts.0 c.requires.limit)
 
-pub overflow-add-sum : goal.overflow-add-sum
-overflow-add-sum g c =
+pub overflow_add-sum : goal.overflow_add-sum
+overflow_add-sum g c =
     let asks = g.C.Claim.asks in
     let cs = c.args.claims.now in
     let i = c.loop-claim.claim-index in

@@ -6,8 +6,8 @@ use Rattle.split.proofs.Steps.{wants_next, put_more, put_all, shares, shares_ste
 use Rattle.split.proofs.Allowed.{wants_parts, scaled_bound}
 use Rattle.split.proofs.grant_shares.Goals as goal
 
-pub overflow-mul-scaled : goal.overflow-mul-scaled
-overflow-mul-scaled g c =
+pub overflow_mul-scaled : goal.overflow_mul-scaled
+overflow_mul-scaled g c =
     let asks = g.C.Claim.asks in
     let cs = c.loop-claim.claims in
     let i = c.loop-claim.claim-index in
@@ -16,8 +16,8 @@ overflow-mul-scaled g c =
     let parts = wants_parts c.want.result (map asks (drop (i + 1) cs)) (sym next ∙ c.loop-claim.invariant.0) in
     omega (arith, scaled_bound c.want.result c.args.room parts.0 c.requires.limit)
 
-pub overflow-add-scaled : goal.overflow-add-scaled
-overflow-add-scaled g c =
+pub overflow_add-scaled : goal.overflow_add-scaled
+overflow_add-scaled g c =
     let asks = g.C.Claim.asks in
     let cs = c.loop-claim.claims in
     let i = c.loop-claim.claim-index in
@@ -25,7 +25,7 @@ overflow-add-scaled g c =
     let next = wants_next asks all_within cs i c.claim-item.result c.want.result inside c.want.ensures in
     let parts = wants_parts c.want.result (map asks (drop (i + 1) cs)) (sym next ∙ c.loop-claim.invariant.0) in
     let scaled = c.want.result * c.args.room in
-    omega (arith, scaled_bound c.want.result c.args.room parts.0 c.requires.limit, div-le_self scaled c.args.total, c.one-more-more.ensures, extra_min (scaled % c.args.total) c.loop-claim.left)
+    omega (arith, scaled_bound c.want.result c.args.room parts.0 c.requires.limit, div-le_self scaled c.args.total, c.one_more-more.ensures, extra_min (scaled % c.args.total) c.loop-claim.left)
 
 pub loop-claim-preserved : goal.loop-claim-preserved
 loop-claim-preserved g c =
@@ -34,7 +34,7 @@ loop-claim-preserved g c =
     let room = c.args.room in
     let total = c.args.total in
     let left = c.loop-claim.left in
-    let more = c.one-more-more in
+    let more = c.one_more-more in
     let cs = c.loop-claim.claims in
     let i = c.loop-claim.claim-index in
     let inside : i < length cs = omega arith in

@@ -19,4 +19,4 @@ pub returns : goal.returns
 returns g c =
     let asks = g.C.Claim.asks in
     let cs = c.args.claims.now in
-    all_pass (map asks cs) c.args.room _ (sym (length-map cs asks)) _ (sym c.few.ensures ∙ c.if-not-few.false) (sym c.within.ensures ∙ c.if-not-within.false) c.wants-within.ensures
+    all_pass (map asks cs) c.args.room _ (sym (length-map cs asks)) _ (sym c.few.ensures ∙ c.if-not-few.false) (sym c.within.ensures ∙ c.if-not-within.false) c.wants_within.ensures

@@ -6,29 +6,29 @@ use Rattle.split.proofs.Allowed.{allowed_parts, answer_no, answer_yes, after_no,
 use Rattle.split.proofs.Steps.{granted_holds, granted_asks}
 use Rattle.split.proofs.split.Goals as goal
 
-pub returns-then-not-is-allowed : goal.returns-then-not-is-allowed
-returns-then-not-is-allowed g c =
+pub returns-then-not-is_allowed : goal.returns-then-not-is_allowed
+returns-then-not-is_allowed g c =
     let cs = c.args.claims.now in
     let wants = map g.C.Claim.asks cs in
-    let no = sym c.is-allowed.ensures ∙ c.if-not-is-allowed.true in
+    let no = sym c.is_allowed.ensures ∙ c.if-not-is_allowed.true in
     record {
       answers = answer_no wants c.args.room no;
       leaves = after_no g.C.Claim.asks g.C.Claim.given cs c.args.room no;
-      refused-changes-nothing = λ e h. refl {a = cs};
-      wants-kept = refl {a = wants};
+      refused_changes_nothing = λ e h. refl {a = cs};
+      wants_kept = refl {a = wants};
       grants = tt;
-      whole-where-they-fit = tt;
-      room-spent-exactly = tt;
+      whole_where_they_fit = tt;
+      room_spent_exactly = tt;
       no_more_than_wanted = tt;
-      within-one-nanowatt = tt;
-      leftovers-in-order = tt;
+      within_one_nanowatt = tt;
+      leftovers_in_order = tt;
     }
 
-pub grant-room-requires : goal.grant-room-requires
-grant-room-requires g c =
+pub grant_room-requires : goal.grant_room-requires
+grant_room-requires g c =
     let cs = c.args.claims.now in
     let asks = g.C.Claim.asks in
-    let parts = allowed_parts (map asks cs) c.args.room (sym c.is-allowed.ensures ∙ c.if-not-is-allowed.false) in
+    let parts = allowed_parts (map asks cs) c.args.room (sym c.is_allowed.ensures ∙ c.if-not-is_allowed.false) in
     record { few = omega (arith, parts.0, length-map cs asks); small = parts.2; limit = parts.1 }
 
 pub returns : goal.returns
@@ -37,18 +37,18 @@ returns g c =
     let room = c.args.room in
     let cs = c.args.claims.now in
     let wants = map m.asks cs in
-    let yes = sym c.is-allowed.ensures ∙ c.if-not-is-allowed.false in
-    let ends = c.grant-room.ensures in
+    let yes = sym c.is_allowed.ensures ∙ c.if-not-is_allowed.false in
+    let ends = c.grant_room.ensures in
     let holds = ap (map m.holds) ends ∙ granted_holds m.given m.holds g.met.C.Claim.takes_the_grant cs (split_of wants room) (split_length wants room ∙ length-map cs m.asks) in
     record {
       answers = answer_yes wants room yes;
       leaves = ends ∙ after_yes m.asks m.given cs room yes;
-      refused-changes-nothing = λ e h. let z : ◌≡◌ {A = ℕ} 0 1 = cc in absurd (omega arith);
-      wants-kept = ap (map m.asks) ends ∙ granted_asks m.given m.asks g.met.C.Claim.keeps_the_want cs (split_of wants room);
+      refused_changes_nothing = λ e h. let z : ◌≡◌ {A = ℕ} 0 1 = cc in absurd (omega arith);
+      wants_kept = ap (map m.asks) ends ∙ granted_asks m.given m.asks g.met.C.Claim.keeps_the_want cs (split_of wants room);
       grants = holds;
-      whole-where-they-fit = λ h. holds ∙ split_whole wants room h;
-      room-spent-exactly = spent wants room _ holds;
+      whole_where_they_fit = λ h. holds ∙ split_whole wants room h;
+      room_spent_exactly = spent wants room _ holds;
       no_more_than_wanted = capped wants room _ holds;
-      within-one-nanowatt = near wants room _ holds;
-      leftovers-in-order = ordered wants room _ holds;
+      within_one_nanowatt = near wants room _ holds;
+      leftovers_in_order = ordered wants room _ holds;
     }

@@ -5,8 +5,8 @@ use Rattle.split.proofs.Steps.{wants_read, wants_none}
 use Rattle.split.proofs.Allowed.{sum_bound}
 use Rattle.split.proofs.total_want.Goals as goal
 
-pub overflow-add-total : goal.overflow-add-total
-overflow-add-total g c =
+pub overflow_add-total : goal.overflow_add-total
+overflow_add-total g c =
     let asks = g.C.Claim.asks in
     let cs = c.args.claims.now in
     let next = wants_read asks sum_of cs c.loop-claim.claim-index c.claim-item.result c.want-total.result c.loop-claim-test.true c.want-total.ensures c.claim-item.is in

@@ -11,7 +11,7 @@ loop-place-preserved c =
     let h : c.loop-place.place < length c.loop-place.cells = omega (arith, c.loop-place.invariant.0) in
     let g : c.loop-place.place < length c.args.wants.now = omega (arith, c.told-wants) in (
       simp length-set c.loop-place.invariant.0,
-      moved_more c.loop-place.cells c.args.wants.now c.args.subframe c.loop-place.place c.move-loops.new.self h g c.move-loops.ensures.leaves ∙ c.loop-place.invariant.1,
+      moved_more c.loop-place.cells c.args.wants.now c.args.subframe c.loop-place.place c.move_loops.new.self h g c.move_loops.ensures.leaves ∙ c.loop-place.invariant.1,
     )
 
 pub returns : goal.returns
@@ -23,5 +23,5 @@ returns c =
     in
     record {
       leaves = is;
-      loop-limits = λ hk hw. subst (λ (ks : List Cell). All CellInRange ks) (sym is) (all_in_range c.args.cells.now c.args.wants.now c.args.subframe hk hw);
+      loop_limits = λ hk hw. subst (λ (ks : List Cell). All CellInRange ks) (sym is) (all_in_range c.args.cells.now c.args.wants.now c.args.subframe hk hw);
     }

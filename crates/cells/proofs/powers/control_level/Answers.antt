@@ -6,5 +6,5 @@ use Rattle.cells.proofs.powers.control_level.Goals as goal
 
 pub returns : goal.returns
 returns c =
-    same_level c.of.result (control_level c.args.settings c.args.loss c.args.control-loop c.args.want)
+    same_level c.of.result (control_level c.args.settings c.args.loss c.args.control_loop c.args.want)
     (omega (arith, ints, tenths_of_same _ _ c.of.ensures))

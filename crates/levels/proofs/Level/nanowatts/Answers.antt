@@ -21,10 +21,10 @@ returns-then-tenths-lt-LOWEST c =
 pub returns : goal.returns
 returns c =
     let l = c.args.self in
-    let n = c.at-step.result in
+    let n = c.at_step.result in
     let from : negsuc 599 ≤ℤ c.args.self.tenths = omega (arith, ints) in
-    let is : c.at-step.result ≡ power c.args.self =
-    c.at-step.ensures ∙ ap (scaled 100 mantissas) (omega (arith, ints)) ∙ sym (W_from c.args.self.tenths from)
+    let is : c.at_step.result ≡ power c.args.self =
+    c.at_step.ensures ∙ ap (scaled 100 mantissas) (omega (arith, ints)) ∙ sym (W_from c.args.self.tenths from)
     in
     record {
       value = is;

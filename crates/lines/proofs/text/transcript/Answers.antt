@@ -11,7 +11,7 @@ grown text next lines i d h before added =
     added ∙ ap (λ bytes. bytes ++ line_bytes (get_or lines i d)) before ∙ flat_map_more line_bytes [] (take i lines) (get_or lines i d) ∙ ap (flat_map line_bytes) (sym (take_more lines i d h))
 
 pub loop-line-preserved : goal.loop-line-preserved
-loop-line-preserved c = grown _ _ c.args.lines.now c.loop-line.line-index _ c.loop-line-test.true c.loop-line.invariant c.in-ok-add-line.ensures
+loop-line-preserved c = grown _ _ c.args.lines.now c.loop-line.line-index _ c.loop-line-test.true c.loop-line.invariant c.in_ok-add_line.ensures
 
 pub returns : goal.returns
 returns c = c.loop-line.invariant ∙ ap (flat_map line_bytes) (take_all _ c.args.lines.now c.loop-line-test.false)

@@ -9,8 +9,8 @@ pub loop-b-preserved : goal.loop-b-preserved
 loop-b-preserved c =
     let text = c.args.text.now in
     let i = c.loop-b.b-index in
-    let p = c.in-ok-push.ensures in
-    let one = p.ascii (omega (arith, c.shown-char.ensures, shown_below (get_or text i 0))) ∙ ap (λ x. x ∷ []) c.shown-char.ensures in
+    let p = c.in_ok-push.ensures in
+    let one = p.ascii (omega (arith, c.shown_char.ensures, shown_below (get_or text i 0))) ∙ ap (λ x. x ∷ []) c.shown_char.ensures in
     let inv = c.loop-b.invariant in
     let more = map_more shown_byte text i 0 c.loop-b-test.true in
     let now = p.bytes in

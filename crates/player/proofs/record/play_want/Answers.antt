@@ -8,4 +8,4 @@ returns-in-Ok g c =
 
 pub returns-in-Err : goal.returns-in-Err
 returns-in-Err g c =
-    want_plays g.R.HoldingRule.reserve c.args.place c.args.cell c.args.want c.args.terminal.now.state _ c.args.terminal.now.rule _ c.args.ticket (Err c.in-Err.refusal) _ c.requires c.in-Err.ensures c.answer-line-line.ensures
+    want_plays g.R.HoldingRule.reserve c.args.place c.args.cell c.args.want c.args.terminal.now.state _ c.args.terminal.now.rule _ c.args.ticket (Err c.in-Err.refusal) _ c.requires c.in-Err.ensures c.answer_line-line.ensures

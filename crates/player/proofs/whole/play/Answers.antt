@@ -9,12 +9,12 @@ use Rattle.player.proofs.Turns.{held_is_open, in_place, starts, read_here, forth
 use Rattle.player.proofs.whole.play.Goals as goal
 use Rattle.player.proofs.whole.play.Goals.{in-Some+then-ends, in-default}
 
-pub returns-in-err-lines : goal.returns-in-err-lines
-returns-in-err-lines g c = record { lines = IfOk-from_err c.from-residual.result _ c.from-residual.ensures.0; lines-of-the-records = of_the_records g.R.HoldingRule.reserve c.args.recording.now c.args.rule (λ i. omega (arith, c.type-inv.recording i)) }
+pub returns-in_err-lines : goal.returns-in_err-lines
+returns-in_err-lines g c = record { lines = IfOk-from_err c.from_residual.result _ c.from_residual.ensures.0; lines_of_the_records = of_the_records g.R.HoldingRule.reserve c.args.recording.now c.args.rule (λ i. omega (arith, c.type_inv.recording i)) }
 
 pub loop-item-init : goal.loop-item-init
 loop-item-init g c =
-    let m = c.in-ok-lines.ensures in
+    let m = c.in_ok-lines.ensures in
     let r = c.new-reader.ensures in
     let t = c.new-terminal.ensures in (
       r.whole,
@@ -26,11 +26,11 @@ loop-item-init g c =
       starts g.R.HoldingRule.reserve c.args.recording.now _ _ _ _ t.state r.start m.items,
     )
 
-pub play-item-left-requires : goal.play-item-left-requires
-play-item-left-requires g c =
+pub play_item-left-requires : goal.play_item-left-requires
+play_item-left-requires g c =
     let inv = c.loop-item.invariant in
-    let o = held_is_open c.loop-item.terminal.state c.is-some.result c.loop-item.ticket inv.5 c.is-some.ensures in
-    record { mine = inv.5; in_place = in_place _ _ c.is-some.result _ (body_read c.in-Some.item) _ o c.in-Some.ensures.next-exactly }
+    let o = held_is_open c.loop-item.terminal.state c.is_some.result c.loop-item.ticket inv.5 c.is_some.ensures in
+    record { mine = inv.5; in_place = in_place _ _ c.is_some.result _ (body_read c.in-Some.item) _ o c.in-Some.ensures.next_exactly }
 
 pub loop-item-preserved : goal.loop-item-preserved
 loop-item-preserved g c =
@@ -38,9 +38,9 @@ loop-item-preserved g c =
     let bytes = c.args.recording.now in
     let at = c.loop-item.reader.offset in
     let said = c.in-Some.ensures in
-    let p = c.play-item-left.ensures in
-    let o = held_is_open c.loop-item.terminal.state c.is-some.result c.loop-item.ticket inv.5 c.is-some.ensures in
-    let read = read_here _ bytes at c.is-some.result (is_open c.loop-item.terminal.state.subframe) _ inv.0 o said.answer in
+    let p = c.play_item-left.ensures in
+    let o = held_is_open c.loop-item.terminal.state c.is_some.result c.loop-item.ticket inv.5 c.is_some.ensures in
+    let read = read_here _ bytes at c.is_some.result (is_open c.loop-item.terminal.state.subframe) _ inv.0 o said.answer in
     let on = sym p.ends_where ∙ c.if-ends.false in
     let f = forth c.in-Some.item at _ _ said.forward on in (
       said.same ∙ inv.0,
@@ -59,18 +59,18 @@ returns g c =
     let reserve = g.R.HoldingRule.reserve in
     let inv = c.loop-item.invariant in
     let at = c.loop-item.reader.offset in
-    let o = held_is_open c.loop-item.terminal.state c.is-some.result c.loop-item.ticket inv.5 c.is-some.ensures in
+    let o = held_is_open c.loop-item.terminal.state c.is_some.result c.loop-item.ticket inv.5 c.is_some.ensures in
     let ruled = ap (λ v. lines_of reserve v bytes) c.new-terminal.ensures.rule in
     record {
       lines = elim c.match-next.branch [
         | in-Some+then-ends w ↦
-            let p = w.play-item-left.ensures in
-            let read = read_here _ bytes at c.is-some.result (is_open c.loop-item.terminal.state.subframe) _ inv.0 o w.in-Some.ensures.answer in
+            let p = w.play_item-left.ensures in
+            let read = read_here _ bytes at c.is_some.result (is_open c.loop-item.terminal.state.subframe) _ inv.0 o w.in-Some.ensures.answer in
             let shown = w.add.ensures.items ∙ ap (λ l. vec_items c.loop-item.lines ++ l) (p.shows ∙ ap (λ n. item_lines reserve n (c.loop-item.terminal.state, c.loop-item.terminal.rule) (body_read w.in-Some.item)) inv.2) in
             ap vec_items w.lines-is ∙ (ends_here reserve bytes _ (c.loop-item.terminal.state, c.loop-item.terminal.rule) at _ inv.6 inv.1 (body_read w.in-Some.item) read (sym p.ends_where ∙ w.if-ends.true) _ shown ∙ ruled)
         | in-default w ↦
-            let read = read_here _ bytes at c.is-some.result (is_open c.loop-item.terminal.state.subframe) _ inv.0 o w.in-default.ensures.answer in
+            let read = read_here _ bytes at c.is_some.result (is_open c.loop-item.terminal.state.subframe) _ inv.0 o w.in-default.ensures.answer in
             ap vec_items w.lines-is ∙ (at_its_end reserve bytes _ (c.loop-item.terminal.state, c.loop-item.terminal.rule) at _ inv.6 inv.1 read ∙ ruled)
       ];
-      lines-of-the-records = of_the_records reserve bytes c.args.rule (λ i. omega (arith, c.type-inv.recording i));
+      lines_of_the_records = of_the_records reserve bytes c.args.rule (λ i. omega (arith, c.type_inv.recording i));
     }

@@ -6,8 +6,8 @@ use Rattle.recording.proofs.Groups.{empty, last, more}
 use Rattle.recording.proofs.numbers.+read_groups.Goals as goal
 use Rattle.recording.proofs.numbers.+read_groups.Goals.{Else-group-lt128}
 
-pub returns-in-default : goal.returns-in-default
-returns-in-default t c = empty _ c.args.left c.args.bytes.now (omega (arith, ltb-true, ltb-false)) (omega (arith, ltb-true, ltb-false))
+pub returns-in_default : goal.returns-in_default
+returns-in_default t c = empty _ c.args.left c.args.bytes.now (omega (arith, ltb-true, ltb-false)) (omega (arith, ltb-true, ltb-false))
 
 pub returns-then-group-lt128 : goal.returns-then-group-lt128
 returns-then-group-lt128 t c = last _ c.args.left c.args.bytes.now (omega (arith, ltb-true, ltb-false)) (omega (arith, ltb-true, ltb-false)) (omega (arith, ltb-true, ltb-false))
@@ -16,20 +16,20 @@ returns-then-group-lt128 t c = last _ c.args.left c.args.bytes.now (omega (arith
 on : (t : ℕ) (c : goal.Else-group-lt128 t) → join c.args.place (get_or c.args.bytes.now 0 0 - 128) (groups c.args.place (c.args.left - 1) (between 1 (length c.args.bytes.now) c.args.bytes.now)) ≡ groups c.args.place c.args.left c.args.bytes.now
 on t c = more c.args.place c.args.left c.args.bytes.now (omega (arith, ltb-true, ltb-false)) (omega (arith, ltb-true, ltb-false)) (omega (arith, ltb-true, ltb-false))
 
-pub returns-in-err-above : goal.returns-in-err-above
-returns-in-err-above t c =
-    let p = err_from_is_err_and c.from-residual.result c.from-residual.ensures.1 in
-    rw (p.1, p.2) (ap (join c.args.place (get_or c.args.bytes.now 0 0 - 128)) c.in-err-above.ensures ∙ on t (goal.at.returns-in-err-above t c).Else-group-lt128)
+pub returns-in_err-above : goal.returns-in_err-above
+returns-in_err-above t c =
+    let p = err_from_is_err_and c.from_residual.result c.from_residual.ensures.1 in
+    rw (p.1, p.2) (ap (join c.args.place (get_or c.args.bytes.now 0 0 - 128)) c.in_err-above.ensures ∙ on t (goal.at.returns-in_err-above t c).Else-group-lt128)
 
-pub returns-in-err-value : goal.returns-in-err-value
-returns-in-err-value t c =
-    let p = err_from_is_err_and c.from-residual-in-err-value.result c.from-residual-in-err-value.ensures.1 in
-    rw (p.1, p.2) (ap (with_rest c.in-ok-above.above.rest.now) c.in-err-value.ensures ∙
-    ap (join c.args.place (get_or c.args.bytes.now 0 0 - 128)) c.in-ok-above.ensures ∙
-    on t (goal.at.returns-in-err-value t c).Else-group-lt128)
+pub returns-in_err-value : goal.returns-in_err-value
+returns-in_err-value t c =
+    let p = err_from_is_err_and c.from_residual-in_err-value.result c.from_residual-in_err-value.ensures.1 in
+    rw (p.1, p.2) (ap (with_rest c.in_ok-above.above.rest.now) c.in_err-value.ensures ∙
+    ap (join c.args.place (get_or c.args.bytes.now 0 0 - 128)) c.in_ok-above.ensures ∙
+    on t (goal.at.returns-in_err-value t c).Else-group-lt128)
 
 pub returns : goal.returns
 returns t c =
-    ap (with_rest c.in-ok-above.above.rest.now) c.in-ok-value.ensures ∙
-    ap (join c.args.place (get_or c.args.bytes.now 0 0 - 128)) c.in-ok-above.ensures ∙
+    ap (with_rest c.in_ok-above.above.rest.now) c.in_ok-value.ensures ∙
+    ap (join c.args.place (get_or c.args.bytes.now 0 0 - 128)) c.in_ok-above.ensures ∙
     on t (goal.at.returns t c).Else-group-lt128

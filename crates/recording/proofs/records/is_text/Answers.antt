@@ -4,11 +4,11 @@ use Rattle.recording.specs.Records.{is_printable}
 use Rattle.recording.proofs.Bodies.{text_on, text_off}
 use Rattle.recording.proofs.records.is_text.Goals as goal
 
-pub returns-then-not-is-printable : goal.returns-then-not-is-printable
-returns-then-not-is-printable c = sym (c.loop-b.invariant ∙ text_off _ _ c.loop-b-test.true (sym c.is-printable.ensures ∙ c.if-not-is-printable.true))
+pub returns-then-not-is_printable : goal.returns-then-not-is_printable
+returns-then-not-is_printable c = sym (c.loop-b.invariant ∙ text_off _ _ c.loop-b-test.true (sym c.is_printable.ensures ∙ c.if-not-is_printable.true))
 
 pub loop-b-preserved : goal.loop-b-preserved
-loop-b-preserved c = c.loop-b.invariant ∙ text_on _ _ c.loop-b-test.true (sym c.is-printable.ensures ∙ c.if-not-is-printable.false)
+loop-b-preserved c = c.loop-b.invariant ∙ text_on _ _ c.loop-b-test.true (sym c.is_printable.ensures ∙ c.if-not-is_printable.false)
 
 pub returns : goal.returns
 returns c = sym (c.loop-b.invariant ∙ at_drop_all is_printable _ _ c.loop-b-test.false)

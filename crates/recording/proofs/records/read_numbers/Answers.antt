@@ -10,15 +10,15 @@ loop-i-init g c =
     let none : g.row.N - 0 ≡ g.row.N = omega arith in
     (length-replicate g.row.N 0, after_none (numbers_at c.args.place g.row.N c.args.bytes.now) ∙ ap (λ k. after [] (numbers_at c.args.place k c.args.bytes.now)) (sym none))
 
-pub returns-in-err-read : goal.returns-in-err-read
-returns-in-err-read g c =
-    let p = err_from_is_err_and c.from-residual.result c.from-residual.ensures.1 in
-    rw (p.1, p.2) (sym (c.loop-i.invariant.1 ∙ number_off c.args.place g.row.N _ _ _ _ c.loop-i-test.true c.in-err-read.ensures.answer))
+pub returns-in_err-read : goal.returns-in_err-read
+returns-in_err-read g c =
+    let p = err_from_is_err_and c.from_residual.result c.from_residual.ensures.1 in
+    rw (p.1, p.2) (sym (c.loop-i.invariant.1 ∙ number_off c.args.place g.row.N _ _ _ _ c.loop-i-test.true c.in_err-read.ensures.answer))
 
 pub loop-i-preserved : goal.loop-i-preserved
 loop-i-preserved g c =
     let inside : c.loop-i.i < length c.loop-i.values = omega (arith, c.loop-i.invariant.0) in
-    (length-set _ _ _ ∙ c.loop-i.invariant.0, c.loop-i.invariant.1 ∙ number_on c.args.place g.row.N _ _ _ _ _ inside c.loop-i.invariant.0 c.in-ok-read.ensures.answer)
+    (length-set _ _ _ ∙ c.loop-i.invariant.0, c.loop-i.invariant.1 ∙ number_on c.args.place g.row.N _ _ _ _ _ inside c.loop-i.invariant.0 c.in_ok-read.ensures.answer)
 
 pub returns : goal.returns
-returns g c = sym (c.loop-i.invariant.1 ∙ number_all c.args.place g.row.N _ _ _ c.loop-i-test.false c.loop-i.invariant.0 (true-eqb _ 0 c.if-not-is-empty.ensures))
+returns g c = sym (c.loop-i.invariant.1 ∙ number_all c.args.place g.row.N _ _ _ c.loop-i-test.false c.loop-i.invariant.0 (true-eqb _ 0 c.if-not-is_empty.ensures))

@@ -9,8 +9,8 @@ returns c =
     let asks = λ (k : DataClaim). k.want in
     let holds = λ (k : DataClaim). k.granted in
     shares_are asks holds data_claim_of c.args.cells.now no_demand (record { want = 0; granted = 0 })
-    c.data-claim.result c.data-claim-2.result c.data-claim-3.result c.data-claim-4.result c.split.new.claims c.args.room c.split.result
+    c.data_claim.result c.data_claim-2.result c.data_claim-3.result c.data_claim-4.result c.split.new.claims c.args.room c.split.result
     c.told-cells
-    (ap asks c.data-claim.ensures) (ap asks c.data-claim-2.ensures) (ap asks c.data-claim-3.ensures) (ap asks c.data-claim-4.ensures)
-    (ap holds c.data-claim.ensures) (ap holds c.data-claim-2.ensures) (ap holds c.data-claim-3.ensures) (ap holds c.data-claim-4.ensures)
-    c.split.ensures.answers c.split.ensures.grants c.split.ensures.refused-changes-nothing c.split.ensures.wants-kept
+    (ap asks c.data_claim.ensures) (ap asks c.data_claim-2.ensures) (ap asks c.data_claim-3.ensures) (ap asks c.data_claim-4.ensures)
+    (ap holds c.data_claim.ensures) (ap holds c.data_claim-2.ensures) (ap holds c.data_claim-3.ensures) (ap holds c.data_claim-4.ensures)
+    c.split.ensures.answers c.split.ensures.grants c.split.ensures.refused_changes_nothing c.split.ensures.wants_kept

@@ -5,12 +5,12 @@ use Rattle.sharing.proofs.Steps.{next, none_left}
 use Rattle.sharing.proofs.demand.all_wanted.Goals as goal
 
 pub loop-rank-init : goal.loop-rank-init
-loop-rank-init c = (c.of-sum.type-inv, refl)
+loop-rank-init c = (c.of-sum.type_inv, refl)
 
-pub returns-in-default : goal.returns-in-default
-returns-in-default c =
+pub returns-in_default : goal.returns-in_default
+returns-in_default c =
     let rs = c.args.ranks.now in
-    let over = c.in-default.ensures in
+    let over = c.in_default.ensures in
     not_held (whole_want c.args.already c.args.group rs)
     (grind (arith, over, c.loop-rank.invariant.1, c.own.ensures, next (wanted_by c.args.group) rs c.loop-rank.rank-index c.loop-rank-test.true))
 

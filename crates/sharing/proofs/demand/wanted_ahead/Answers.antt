@@ -17,8 +17,8 @@ theirs c =
     let r = get_or c.args.ranks.now c.loop-rank.rank-index unset in
     c.own-passed.ensures ∙ ap (λ (Z : Group). if_group Z r.group r.want) c.rival-rival.ensures
 
-pub overflow-add-passed : goal.overflow-add-passed
-overflow-add-passed c =
+pub overflow_add-passed : goal.overflow_add-passed
+overflow_add-passed c =
     let left = next (wanted_by (rival c.args.group)) c.args.ranks.now c.loop-rank.rank-index c.loop-rank-test.true in
     omega (arith, theirs c, left, c.loop-rank.invariant.1, c.requires)
 

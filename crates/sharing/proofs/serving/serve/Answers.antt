@@ -16,7 +16,7 @@ loop-rank-init c = (elim [ Master ↦ omega arith | Secondary ↦ omega arith ],
 pub plus-granted-requires : goal.plus-granted-requires
 plus-granted-requires c =
     let left = c.serve.new.self in
-    omega (arith, grant_fits c.args.total c.args.reserves c.loop-rank.granted (get_or c.loop-rank.ranks c.loop-rank.rank-index unset) left _ c.room-for-room.ensures c.serve.ensures, c.loop-rank.invariant.0 left.group, c.ranges.total)
+    omega (arith, grant_fits c.args.total c.args.reserves c.loop-rank.granted (get_or c.loop-rank.ranks c.loop-rank.rank-index unset) left _ c.room_for-room.ensures c.serve.ensures, c.loop-rank.invariant.0 left.group, c.ranges.total)
 
 pub loop-rank-preserved : goal.loop-rank-preserved
 loop-rank-preserved c =
@@ -26,16 +26,16 @@ loop-rank-preserved c =
     let i = l.rank-index in
     let r = get_or l.ranks i unset in
     let left = c.serve.new.self in
-    let n = c.room-for-room.result in
+    let n = c.room_for-room.result in
     let far = c.plus-granted.result in
     let inside : i < length l.ranks = omega arith in
     let back = drop-set-lt (i + 1) l.ranks i left (omega arith) in (
       (elim [ Master ↦ omega arith | Secondary ↦ omega arith ]),
       put_more (served P R l.granted) (served P R far) l.ranks i unset left inside
-          (served_step P R l.granted r left n c.room-for-room.ensures c.serve.ensures far c.plus-granted.ensures)
+          (served_step P R l.granted r left n c.room_for-room.ensures c.serve.ensures far c.plus-granted.ensures)
           ∙ l.invariant.1,
       (λ X. rw back
-          (granted_step P R l.granted r left n c.room-for-room.ensures c.serve.ensures far c.plus-granted.ensures X (drop (i + 1) l.ranks)
+          (granted_step P R l.granted r left n c.room_for-room.ensures c.serve.ensures far c.plus-granted.ensures X (drop (i + 1) l.ranks)
           ∙ sym (next (λ (qs : List Rank). at_group X l.granted + granted_to X (served P R l.granted qs)) l.ranks i inside)
           ∙ l.invariant.2 X)),
     )

@@ -13,9 +13,9 @@ pub returns : goal.returns
 returns c =
     let k = c.args.self.now in
     let is = moved_at c.args.self.now c.args.wants c.args.subframe c.in-Some.settings _ _ _ _
-    c.in-Some.is (search rules) (search rules) c.take-due-data-command.ensures.leaves c.take-due-control-command.ensures.leaves in
+    c.in-Some.is (search rules) (search rules) c.take_due-data_command.ensures.leaves c.take_due-control_command.ensures.leaves in
     record {
       leaves = is;
-      loop-limits = λ hk hw. within _ _ is (moved_in_range k c.args.wants c.args.subframe hk hw);
+      loop_limits = λ hk hw. within _ _ is (moved_in_range k c.args.wants c.args.subframe hk hw);
       moves_by_commands = moves_by_commands k c.args.wants c.args.subframe _ is;
     }

@@ -6,9 +6,9 @@ use Rattle.cells.proofs.cell.Cell.wanted.Goals as goal
 
 pub returns-in-Some : goal.returns-in-Some
 returns-in-Some c =
-    let is : c.powers-with.result ≡ wanted_powers c.args.self.now c.args.wants = search rules in
+    let is : c.powers_with.result ≡ wanted_powers c.args.self.now c.args.wants = search rules in
     record {
       value = is;
-      want-close-below-exact = data_close c.args.self.now c.args.wants _ is;
+      want_close_below_exact = data_close c.args.self.now c.args.wants _ is;
       within_maximum = powers_within c.args.self.now c.args.wants _ is;
     }

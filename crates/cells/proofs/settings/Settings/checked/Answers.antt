@@ -16,10 +16,10 @@ returns c =
     let none = none_holds (settings_conditions r) accepted in
     let bounds = settings_bounds r none in
     let tenths : to_z w32 (of_z w32 (to_z w64 (of_z w64 c.args.raw.maximum))) ≡ c.args.raw.maximum = omega (arith, ints) in
-    let same = settings_same r c.loop-kind-of.result c.from-tenths.result
+    let same = settings_same r c.loop_kind_of.result c.from_tenths.result
     (to_z w16 (of_z w16 (to_z w64 (of_z w64 c.args.raw.data_base))))
     (to_z w16 (of_z w16 (to_z w64 (of_z w64 c.args.raw.control_base))))
-    c.loop-kind-of.ensures (c.from-tenths.ensures ∙ ap (level_of (pos 0)) tenths) (omega (arith, ints)) (omega (arith, ints)) in
+    c.loop_kind_of.ensures (c.from_tenths.ensures ∙ ap (level_of (pos 0)) tenths) (omega (arith, ints)) (omega (arith, ints)) in
     let back = ap raw_settings_of same ∙ settings_back r none in
     record {
       answers = ap Ok same ∙ sym (ap (λ o. refused_or o (settings_of c.args.raw)) accepted);

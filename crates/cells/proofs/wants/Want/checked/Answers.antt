@@ -12,9 +12,9 @@ returns-then-raw c =
     let conditions = conditions_at r 1 is in
     let want = want_at r 1 is in
     record {
-      answers = kind_answers r cs (Control (control_of r)) _ conditions want (control_back r is) c.checked-control.ensures;
-      reads_back = kind_back r cs (Control (control_of r)) _ conditions want (control_back r is) c.checked-control.ensures;
-      in_range = kind_in_range r cs (Control (control_of r)) _ conditions want (control_back r is) c.checked-control.ensures;
+      answers = kind_answers r cs (Control (control_of r)) _ conditions want (control_back r is) c.checked_control.ensures;
+      reads_back = kind_back r cs (Control (control_of r)) _ conditions want (control_back r is) c.checked_control.ensures;
+      in_range = kind_in_range r cs (Control (control_of r)) _ conditions want (control_back r is) c.checked_control.ensures;
     }
 
 pub returns-then-raw-2 : goal.returns-then-raw-2
@@ -25,9 +25,9 @@ returns-then-raw-2 c =
     let conditions = conditions_at r 2 is in
     let want = want_at r 2 is in
     record {
-      answers = kind_answers r cs (Data (data_of r)) _ conditions want (data_back r is) c.checked-data.ensures;
-      reads_back = kind_back r cs (Data (data_of r)) _ conditions want (data_back r is) c.checked-data.ensures;
-      in_range = kind_in_range r cs (Data (data_of r)) _ conditions want (data_back r is) c.checked-data.ensures;
+      answers = kind_answers r cs (Data (data_of r)) _ conditions want (data_back r is) c.checked_data.ensures;
+      reads_back = kind_back r cs (Data (data_of r)) _ conditions want (data_back r is) c.checked_data.ensures;
+      in_range = kind_in_range r cs (Data (data_of r)) _ conditions want (data_back r is) c.checked_data.ensures;
     }
 
 pub returns-then-raw-3 : goal.returns-then-raw-3
@@ -38,7 +38,7 @@ returns-then-raw-3 c =
     let conditions = conditions_at r 3 is in
     let want = want_at r 3 is in
     record {
-      answers = kind_answers r cs (Sounding (sounding_of r)) _ conditions want (sounding_back r is) c.checked-sounding.ensures;
-      reads_back = kind_back r cs (Sounding (sounding_of r)) _ conditions want (sounding_back r is) c.checked-sounding.ensures;
-      in_range = kind_in_range r cs (Sounding (sounding_of r)) _ conditions want (sounding_back r is) c.checked-sounding.ensures;
+      answers = kind_answers r cs (Sounding (sounding_of r)) _ conditions want (sounding_back r is) c.checked_sounding.ensures;
+      reads_back = kind_back r cs (Sounding (sounding_of r)) _ conditions want (sounding_back r is) c.checked_sounding.ensures;
+      in_range = kind_in_range r cs (Sounding (sounding_of r)) _ conditions want (sounding_back r is) c.checked_sounding.ensures;
     }

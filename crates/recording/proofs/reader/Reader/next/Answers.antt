@@ -12,7 +12,7 @@ returns-then-self c =
     let bs = c.args.self.now.recording.now in
     let at = c.args.self.now.offset in
     let past = c.if-self.true in
-    record { same = refl; answer = answer_end bs at _ past; stands_after = offset_end bs at past; forward = (refl, past); next-exactly = at_end bs at _ past }
+    record { same = refl; answer = answer_end bs at _ past; stands_after = offset_end bs at past; forward = (refl, past); next_exactly = at_end bs at _ past }
 
 pub returns-in-Err : goal.returns-in-Err
 returns-in-Err c =
@@ -20,57 +20,57 @@ returns-in-Err c =
     let at = c.args.self.now.offset in
     let fault = c.in-Err.fault in
     let here = read_here bs at (refused fault) c.in-Err.ensures.answer in
-    let f = exactly_here bs at (refused fault) c.in-Err.ensures.record-exactly in
+    let f = exactly_here bs at (refused fault) c.in-Err.ensures.record_exactly in
     let codes = ending_codes at fault (f.no_other_fault fault refl) in
     record {
       same = refl;
       answer = answer_here bs at _ c.if-self.false (refused fault) here;
       stands_after = offset_here bs at c.if-self.false (refused fault) here;
       forward = (λ _. refl, λ goes_on. absurd (both_ways _ goes_on codes.3), omega (arith, c.if-self.false));
-      next-exactly = at_fault bs at _ c.if-self.false fault f;
+      next_exactly = at_fault bs at _ c.if-self.false fault f;
     }
 
-pub overflow-sub-self : goal.overflow-sub-self
-overflow-sub-self c =
+pub overflow_sub-self : goal.overflow_sub-self
+overflow_sub-self c =
     let bs = c.args.self.now.recording.now in
     let at = c.args.self.now.offset in
-    let f = exactly_here bs at _ c.in-Ok.ensures.record-exactly in
+    let f = exactly_here bs at _ c.in-Ok.ensures.record_exactly in
     rest_fits bs at _ _ ((f.read_where_it_stands _ _).only refl).1
 
-pub returns-then-out-of-place : goal.returns-then-out-of-place
-returns-then-out-of-place c =
+pub returns-then-out_of_place : goal.returns-then-out_of_place
+returns-then-out_of_place c =
     let bs = c.args.self.now.recording.now in
     let at = c.args.self.now.offset in
-    let is_open = c.args.subframe-open in
+    let is_open = c.args.subframe_open in
     let said = content c.in-Ok.read.record in
     let rest = c.in-Ok.read.rest.now in
     let here = read_here bs at (whole said rest) c.in-Ok.ensures.answer in
-    let f = exactly_here bs at (whole said rest) c.in-Ok.ensures.record-exactly in
+    let f = exactly_here bs at (whole said rest) c.in-Ok.ensures.record_exactly in
     let b = now_behind bs at said rest f in
-    let out = sym c.if-out-of-place.ensures in
+    let out = sym c.if-out_of_place.ensures in
     record {
       same = refl;
       answer = ap Some (sym (cond-true _ _ _ out)) ∙ answer_here bs at is_open c.if-self.false (whole said rest) here;
       stands_after = b.is ∙ offset_here bs at c.if-self.false (whole said rest) here;
       forward = (λ ends. absurd (false≢true ends), λ _. b.forth, b.within);
-      next-exactly = subst (NextExactly bs at is_open (Some (Err (no_open_subframe at)))) (sym b.is) (misplaced bs at is_open c.if-self.false said rest f out);
+      next_exactly = subst (NextExactly bs at is_open (Some (Err (no_open_subframe at)))) (sym b.is) (misplaced bs at is_open c.if-self.false said rest f out);
     }
 
-pub returns-else-out-of-place : goal.returns-else-out-of-place
-returns-else-out-of-place c =
+pub returns-else-out_of_place : goal.returns-else-out_of_place
+returns-else-out_of_place c =
     let bs = c.args.self.now.recording.now in
     let at = c.args.self.now.offset in
-    let is_open = c.args.subframe-open in
+    let is_open = c.args.subframe_open in
     let said = content c.in-Ok.read.record in
     let rest = c.in-Ok.read.rest.now in
     let here = read_here bs at (whole said rest) c.in-Ok.ensures.answer in
-    let f = exactly_here bs at (whole said rest) c.in-Ok.ensures.record-exactly in
+    let f = exactly_here bs at (whole said rest) c.in-Ok.ensures.record_exactly in
     let b = now_behind bs at said rest f in
-    let fine = sym c.if-out-of-place.ensures in
+    let fine = sym c.if-out_of_place.ensures in
     record {
       same = refl;
       answer = ap Some (sym (cond-false _ _ _ fine)) ∙ answer_here bs at is_open c.if-self.false (whole said rest) here;
       stands_after = b.is ∙ offset_here bs at c.if-self.false (whole said rest) here;
       forward = (b.forth, b.within);
-      next-exactly = subst (NextExactly bs at is_open (Some (Ok said))) (sym b.is) (in_place bs at is_open c.if-self.false said rest f fine);
+      next_exactly = subst (NextExactly bs at is_open (Some (Ok said))) (sym b.is) (in_place bs at is_open c.if-self.false said rest f fine);
     }

@@ -7,20 +7,20 @@ use Rattle.terminal.proofs.Answering.{refused_call, done_call}
 use Rattle.terminal.proofs.Keeping.{Kept, ended_kept}
 use Rattle.terminal.proofs.terminal.Terminal.drop_subframe.Goals as goal
 
-pub returns-in-err-admit-open-ticket : goal.returns-in-err-admit-open-ticket
-returns-in-err-admit-open-ticket g c =
-    let p = err_from_is_err_and c.from-residual.result c.from-residual.ensures.1 in
-    refused_call (refuses_open_ticket c.args.self.now.state c.args.ticket.subframe) _ _ _ _ _ _ _ (p.1 ∙ ap Err p.2) c.in-err-admit-open-ticket.ensures
+pub returns-in_err-admit_open_ticket : goal.returns-in_err-admit_open_ticket
+returns-in_err-admit_open_ticket g c =
+    let p = err_from_is_err_and c.from_residual.result c.from_residual.ensures.1 in
+    refused_call (refuses_open_ticket c.args.self.now.state c.args.ticket.subframe) _ _ _ _ _ _ _ (p.1 ∙ ap Err p.2) c.in_err-admit_open_ticket.ensures
 
-pub invariant-of-self : goal.invariant-of-self
-invariant-of-self g c =
+pub invariant_of-self : goal.invariant_of-self
+invariant_of-self g c =
     let t = c.args.self.now in
     let k : Kept c.args.self.now.state = record { shares = t.shares_kept; cells = t.cells_in_range; loops = t.loop_limits; wants = t.wants_kept; sums = t.sums_within; left = t.subframes_left } in
-    let n = ended_kept _ _ k c.end-subframe.ensures in
+    let n = ended_kept _ _ k c.end_subframe.ensures in
     (n.shares, (n.cells, (n.loops, (n.wants, (n.sums, (n.left, tt))))))
 
 pub returns : goal.returns
 returns g c =
     let cs = refuses_open_ticket c.args.self.now.state c.args.ticket.subframe in
-    let a = admitted (first_that_holds cs) _ _ c.in-ok-admit-open-ticket.ensures in
-    done_call cs _ tt _ _ _ _ a.0 refl c.end-subframe.ensures
+    let a = admitted (first_that_holds cs) _ _ c.in_ok-admit_open_ticket.ensures in
+    done_call cs _ tt _ _ _ _ a.0 refl c.end_subframe.ensures

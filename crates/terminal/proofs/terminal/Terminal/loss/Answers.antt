@@ -9,21 +9,21 @@ use Rattle.states.specs.States.{cell_at}
 use Rattle.terminal.proofs.Keeping.{Kept, changed_kept, cell_put, loss_in_range}
 use Rattle.terminal.proofs.terminal.Terminal.loss.Goals as goal
 
-pub returns-in-err-place : goal.returns-in-err-place
-returns-in-err-place g c =
-    let p = err_from_is_err_and c.from-residual.result c.from-residual.ensures.1 in
-    refused_call (refuses_loss c.args.self.now.state c.args.cell c.args.loss) _ _ _ _ _ _ _ (p.1 ∙ ap Err p.2) c.in-err-place.ensures.answers
+pub returns-in_err-place : goal.returns-in_err-place
+returns-in_err-place g c =
+    let p = err_from_is_err_and c.from_residual.result c.from_residual.ensures.1 in
+    refused_call (refuses_loss c.args.self.now.state c.args.cell c.args.loss) _ _ _ _ _ _ _ (p.1 ∙ ap Err p.2) c.in_err-place.ensures.answers
 
-pub invariant-of-self : goal.invariant-of-self
-invariant-of-self g c =
+pub invariant_of-self : goal.invariant_of-self
+invariant_of-self g c =
     let t = c.args.self.now in
     let k : Kept c.args.self.now.state = record { shares = t.shares_kept; cells = t.cells_in_range; loops = t.loop_limits; wants = t.wants_kept; sums = t.sums_within; left = t.subframes_left } in
-    let i = c.in-ok-place in
-    let n = changed_kept _ _ i.place _ k (λ r. c.set-loss.ensures.in_range r (loss_in_range i.loss i.ensures.in_range.1)) c.put-cell.ensures in
+    let i = c.in_ok-place in
+    let n = changed_kept _ _ i.place _ k (λ r. c.set_loss.ensures.in_range r (loss_in_range i.loss i.ensures.in_range.1)) c.put_cell.ensures in
     (n.shares, (n.cells, (n.loops, (n.wants, (n.sums, (n.left, tt))))))
 
 pub returns : goal.returns
 returns g c =
     let cs = refuses_loss c.args.self.now.state c.args.cell c.args.loss in
-    let a = admitted (first_that_holds cs) _ _ c.in-ok-place.ensures.answers in
-    done_call cs _ tt _ _ _ _ a.0 refl (c.put-cell.ensures ∙ cell_put c.args.self.now.state _ _ _ _ (ap (λ p. p.0) a.1) (c.set-loss.ensures.leaves ∙ ap (λ p. with_loss (cell_at c.args.self.now.state p.0) p.1) a.1))
+    let a = admitted (first_that_holds cs) _ _ c.in_ok-place.ensures.answers in
+    done_call cs _ tt _ _ _ _ a.0 refl (c.put_cell.ensures ∙ cell_put c.args.self.now.state _ _ _ _ (ap (λ p. p.0) a.1) (c.set_loss.ensures.leaves ∙ ap (λ p. with_loss (cell_at c.args.self.now.state p.0) p.1) a.1))

@@ -11,5 +11,5 @@ returns-in-Set g c =
     record {
       answers = plain_answers cs _ t.state _ t.rule _ _ _ c.set.ensures c.told.ensures ∙ sym (ap (answer_to t.state) c.in-Set.is);
       leaves = c.set.ensures.leaves ∙ sym (ap (state_after (g.R.HoldingRule.reserve t.rule) t.state) c.in-Set.is);
-      leaves-rule = plain_rule cs _ t.state _ t.rule _ _ _ c.set.ensures c.told.ensures ∙ sym (ap (rule_after t.state t.rule) c.in-Set.is);
+      leaves_rule = plain_rule cs _ t.state _ t.rule _ _ _ c.set.ensures c.told.ensures ∙ sym (ap (rule_after t.state t.rule) c.in-Set.is);
     }

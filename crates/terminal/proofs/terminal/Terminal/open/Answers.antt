@@ -8,20 +8,20 @@ use Rattle.terminal.specs.Tickets.{open_ticket}
 use Rattle.terminal.proofs.Keeping.{Kept, opened_kept}
 use Rattle.terminal.proofs.terminal.Terminal.open.Goals as goal
 
-pub returns-in-err-admit-open : goal.returns-in-err-admit-open
-returns-in-err-admit-open g c =
-    let p = err_from_is_err_and c.from-residual.result c.from-residual.ensures.1 in
-    refused_call (refuses_open c.args.self.now.state) _ _ _ _ _ _ _ (p.1 ∙ ap Err p.2) c.in-err-admit-open.ensures
+pub returns-in_err-admit_open : goal.returns-in_err-admit_open
+returns-in_err-admit_open g c =
+    let p = err_from_is_err_and c.from_residual.result c.from_residual.ensures.1 in
+    refused_call (refuses_open c.args.self.now.state) _ _ _ _ _ _ _ (p.1 ∙ ap Err p.2) c.in_err-admit_open.ensures
 
-pub invariant-of-self : goal.invariant-of-self
-invariant-of-self g c =
+pub invariant_of-self : goal.invariant_of-self
+invariant_of-self g c =
     let t = c.args.self.now in
     let k : Kept c.args.self.now.state = record { shares = t.shares_kept; cells = t.cells_in_range; loops = t.loop_limits; wants = t.wants_kept; sums = t.sums_within; left = t.subframes_left } in
-    let n = opened_kept _ _ k (admitted (first_that_holds (refuses_open t.state)) _ _ c.in-ok-admit-open.ensures).0 c.open-subframe.ensures in
+    let n = opened_kept _ _ k (admitted (first_that_holds (refuses_open t.state)) _ _ c.in_ok-admit_open.ensures).0 c.open_subframe.ensures in
     (n.shares, (n.cells, (n.loops, (n.wants, (n.sums, (n.left, tt))))))
 
 pub returns : goal.returns
 returns g c =
     let cs = refuses_open c.args.self.now.state in
-    let a = admitted (first_that_holds cs) _ _ c.in-ok-admit-open.ensures in
-    done_call cs _ (open_ticket c.args.self.now.state.settled) _ _ _ _ a.0 (c.new.ensures ∙ ap (λ s. open_ticket s.settled) c.open-subframe.ensures) c.open-subframe.ensures
+    let a = admitted (first_that_holds cs) _ _ c.in_ok-admit_open.ensures in
+    done_call cs _ (open_ticket c.args.self.now.state.settled) _ _ _ _ a.0 (c.new.ensures ∙ ap (λ s. open_ticket s.settled) c.open_subframe.ensures) c.open_subframe.ensures

@@ -15,35 +15,35 @@ returns-in-Err g c =
       answers = back_answers (first_that_holds cs) c.in-Err.refusal _ c.args.ticket h;
       leaves = left_alone (first_that_holds cs) c.in-Err.refusal _ _ _ h;
       rule_settled = left_alone (first_that_holds cs) c.in-Err.refusal _ _ _ h;
-      refused-exactly = back_exactly cs c.in-Err.refusal _ c.args.ticket h;
-      refused-changes-nothing = λ u k. (refl, refl);
-      cells-add-up-to-groups = tt;
+      refused_exactly = back_exactly cs c.in-Err.refusal _ c.args.ticket h;
+      refused_changes_nothing = λ u k. (refl, refl);
+      cells_add_up_to_groups = tt;
     }
 
-pub settle-open-requires : goal.settle-open-requires
-settle-open-requires g c =
+pub settle_open-requires : goal.settle_open-requires
+settle_open-requires g c =
     let t = c.args.self.now in
     let k : Kept c.args.self.now.state = record { shares = t.shares_kept; cells = t.cells_in_range; loops = t.loop_limits; wants = t.wants_kept; sums = t.sums_within; left = t.subframes_left } in
-    let one = open_for_settle t.state c.args.ticket.subframe (admitted _ _ _ c.in-default.ensures).0 in
-    record { shares-kept = t.shares_kept; settleable = settleable t.state k; sums-within = t.sums_within; one_left = omega (arith, t.subframes_left, one) }
+    let one = open_for_settle t.state c.args.ticket.subframe (admitted _ _ _ c.in_default.ensures).0 in
+    record { shares_kept = t.shares_kept; settleable = settleable t.state k; sums_within = t.sums_within; one_left = omega (arith, t.subframes_left, one) }
 
-pub invariant-of-self : goal.invariant-of-self
-invariant-of-self g c =
+pub invariant_of-self : goal.invariant_of-self
+invariant_of-self g c =
     let t = c.args.self.now in
     let k : Kept c.args.self.now.state = record { shares = t.shares_kept; cells = t.cells_in_range; loops = t.loop_limits; wants = t.wants_kept; sums = t.sums_within; left = t.subframes_left } in
-    let one = open_for_settle t.state c.args.ticket.subframe (admitted _ _ _ c.in-default.ensures).0 in
-    let n = left_by (g.R.HoldingRule.reserve t.rule) t.state c.settle-open.new.state k one c.settle-open.ensures.most c.settle-open.ensures.leaves in
+    let one = open_for_settle t.state c.args.ticket.subframe (admitted _ _ _ c.in_default.ensures).0 in
+    let n = left_by (g.R.HoldingRule.reserve t.rule) t.state c.settle_open.new.state k one c.settle_open.ensures.most c.settle_open.ensures.leaves in
     (n.shares, (n.cells, (n.loops, (n.wants, (n.sums, (n.left, tt))))))
 
 pub returns : goal.returns
 returns g c =
     let cs = refuses_open_ticket c.args.self.now.state c.args.ticket.subframe in
-    let none = (admitted (first_that_holds cs) _ _ c.in-default.ensures).0 in
+    let none = (admitted (first_that_holds cs) _ _ c.in_default.ensures).0 in
     record {
       answers = settled_answers cs none c.args.ticket _ c.new.ensures;
-      leaves = changed cs none _ _ _ c.settle-open.ensures.leaves;
+      leaves = changed cs none _ _ _ c.settle_open.ensures.leaves;
       rule_settled = changed cs none _ _ _ refl;
-      refused-exactly = settled_exactly cs none;
-      refused-changes-nothing = λ u k. absurd (not_refused u _ k);
-      cells-add-up-to-groups = subframe_adds_up (g.R.HoldingRule.reserve c.args.self.now.rule) c.args.self.now.state _ c.settle-open.ensures.cells-add-up-to-groups c.settle-open.ensures.leaves;
+      refused_exactly = settled_exactly cs none;
+      refused_changes_nothing = λ u k. absurd (not_refused u _ k);
+      cells_add_up_to_groups = subframe_adds_up (g.R.HoldingRule.reserve c.args.self.now.rule) c.args.self.now.state _ c.settle_open.ensures.cells_add_up_to_groups c.settle_open.ensures.leaves;
     }

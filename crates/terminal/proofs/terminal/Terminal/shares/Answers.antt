@@ -8,20 +8,20 @@ use Rattle.states.specs.States.{with_shares}
 use Rattle.terminal.proofs.Keeping.{Kept, shares_put_kept}
 use Rattle.terminal.proofs.terminal.Terminal.shares.Goals as goal
 
-pub returns-in-err-shares : goal.returns-in-err-shares
-returns-in-err-shares g c =
-    let p = err_from_is_err_and c.from-residual.result c.from-residual.ensures.1 in
-    refused_call (refuses_shares c.args.self.now.state c.args.shares) _ _ _ _ _ _ _ (p.1 ∙ ap Err p.2) c.in-err-shares.ensures.answers
+pub returns-in_err-shares : goal.returns-in_err-shares
+returns-in_err-shares g c =
+    let p = err_from_is_err_and c.from_residual.result c.from_residual.ensures.1 in
+    refused_call (refuses_shares c.args.self.now.state c.args.shares) _ _ _ _ _ _ _ (p.1 ∙ ap Err p.2) c.in_err-shares.ensures.answers
 
-pub invariant-of-self : goal.invariant-of-self
-invariant-of-self g c =
+pub invariant_of-self : goal.invariant_of-self
+invariant_of-self g c =
     let t = c.args.self.now in
     let k : Kept c.args.self.now.state = record { shares = t.shares_kept; cells = t.cells_in_range; loops = t.loop_limits; wants = t.wants_kept; sums = t.sums_within; left = t.subframes_left } in
-    let n = shares_put_kept _ _ c.in-ok-shares.shares k c.in-ok-shares.ensures.in_range c.put-shares.ensures in
+    let n = shares_put_kept _ _ c.in_ok-shares.shares k c.in_ok-shares.ensures.in_range c.put_shares.ensures in
     (n.shares, (n.cells, (n.loops, (n.wants, (n.sums, (n.left, tt))))))
 
 pub returns : goal.returns
 returns g c =
     let cs = refuses_shares c.args.self.now.state c.args.shares in
-    let a = admitted (first_that_holds cs) _ _ c.in-ok-shares.ensures.answers in
-    done_call cs _ tt _ _ _ _ a.0 refl (c.put-shares.ensures ∙ ap (with_shares c.args.self.now.state) a.1)
+    let a = admitted (first_that_holds cs) _ _ c.in_ok-shares.ensures.answers in
+    done_call cs _ tt _ _ _ _ a.0 refl (c.put_shares.ensures ∙ ap (with_shares c.args.self.now.state) a.1)

@@ -8,23 +8,23 @@ use Rattle.terminal.proofs.Keeping.{Kept, open_for_want}
 use Rattle.terminal.proofs.OneMore.{want_put_kept, want_put}
 use Rattle.terminal.proofs.terminal.Terminal.want.Goals as goal
 
-pub returns-in-err-place : goal.returns-in-err-place
-returns-in-err-place g c =
-    let p = err_from_is_err_and c.from-residual.result c.from-residual.ensures.1 in
-    refused_call (refuses_want c.args.self.now.state c.args.ticket.now.subframe c.args.cell c.args.want) _ _ _ _ _ _ _ (p.1 ∙ ap Err p.2) c.in-err-place.ensures.answers
+pub returns-in_err-place : goal.returns-in_err-place
+returns-in_err-place g c =
+    let p = err_from_is_err_and c.from_residual.result c.from_residual.ensures.1 in
+    refused_call (refuses_want c.args.self.now.state c.args.ticket.now.subframe c.args.cell c.args.want) _ _ _ _ _ _ _ (p.1 ∙ ap Err p.2) c.in_err-place.ensures.answers
 
-pub invariant-of-self : goal.invariant-of-self
-invariant-of-self g c =
+pub invariant_of-self : goal.invariant_of-self
+invariant_of-self g c =
     let t = c.args.self.now in
     let k : Kept c.args.self.now.state = record { shares = t.shares_kept; cells = t.cells_in_range; loops = t.loop_limits; wants = t.wants_kept; sums = t.sums_within; left = t.subframes_left } in
-    let i = c.in-ok-place in
+    let i = c.in_ok-place in
     let a = admitted (first_that_holds (refuses_want t.state c.args.ticket.now.subframe c.args.cell c.args.want)) _ _ i.ensures.answers in
     let one = open_for_want t.state c.args.ticket.now.subframe c.args.cell c.args.want a.0 in
-    let n = want_put_kept _ _ i.place i.want k one i.ensures.new i.ensures.in_range.1 c.add-want.ensures in
+    let n = want_put_kept _ _ i.place i.want k one i.ensures.new i.ensures.in_range.1 c.add_want.ensures in
     (n.shares, (n.cells, (n.loops, (n.wants, (n.sums, (n.left, tt))))))
 
 pub returns : goal.returns
 returns g c =
     let cs = refuses_want c.args.self.now.state c.args.ticket.now.subframe c.args.cell c.args.want in
-    let a = admitted (first_that_holds cs) _ _ c.in-ok-place.ensures.answers in
-    done_call cs _ tt _ _ _ _ a.0 refl (c.add-want.ensures ∙ want_put c.args.self.now.state _ _ _ _ a.1)
+    let a = admitted (first_that_holds cs) _ _ c.in_ok-place.ensures.answers in
+    done_call cs _ tt _ _ _ _ a.0 refl (c.add_want.ensures ∙ want_put c.args.self.now.state _ _ _ _ a.1)

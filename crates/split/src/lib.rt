@@ -39,7 +39,7 @@ fn within(nanowatts: u64) -> bool
 
 /// Whether no claim wants more than the largest power.
 fn wants_within<C: Claim>(claims: &[C]) -> bool
-    ensures { result ≡ all_within (map asks claims.now) }
+    ensures { result ≡ all_within (map C.asks claims.now) }
 {
     for claim in claims {
         if !within(claim.want()) {
@@ -51,7 +51,7 @@ fn wants_within<C: Claim>(claims: &[C]) -> bool
 
 /// Whether the claims and the room are within the limits of a split.
 fn is_allowed<C: Claim>(claims: &[C], room: u64) -> bool
-    ensures { result ≡ allowed (map asks claims.now) room }
+    ensures { result ≡ allowed (map C.asks claims.now) room }
 {
     if !few(claims.len()) {
         return false;
@@ -65,8 +65,8 @@ fn is_allowed<C: Claim>(claims: &[C], room: u64) -> bool
 /// What the claims want together.
 fn total_want<C: Claim>(claims: &[C]) -> u64
     requires few { length claims.now ≤ 8 }
-    requires small { all_within (map asks claims.now) ≡ true }
-    ensures { result ≡ sum_of (map asks claims.now) }
+    requires small { all_within (map C.asks claims.now) ≡ true }
+    ensures { result ≡ sum_of (map C.asks claims.now) }
 {
     let mut total = 0;
     for claim in claims {
@@ -77,11 +77,11 @@ fn total_want<C: Claim>(claims: &[C]) -> u64
 
 /// What the shares, rounded down, come to.
 fn floor_sum<C: Claim>(claims: &[C], room: u64, total: u64) -> u64
-    requires small { all_within (map asks claims.now) ≡ true }
+    requires small { all_within (map C.asks claims.now) ≡ true }
     requires limit { room ≤ 1995262314 }
     requires short { room < total }
-    requires whole { total ≡ sum_of (map asks claims.now) }
-    ensures { result ≡ sum_of (rounded_down room total (map asks claims.now)) }
+    requires whole { total ≡ sum_of (map C.asks claims.now) }
+    ensures { result ≡ sum_of (rounded_down room total (map C.asks claims.now)) }
 {
     let mut sum = 0;
     for claim in claims {
@@ -92,7 +92,7 @@ fn floor_sum<C: Claim>(claims: &[C], room: u64, total: u64) -> u64
 
 /// Grants each claim what it wants.
 fn grant_whole<C: Claim>(claims: &mut [C])
-    ensures { claims.new ≡ with_grants given claims.old (map asks claims.old) }
+    ensures { claims.new ≡ with_grants C.given claims.old (map C.asks claims.old) }
 {
     for claim in claims.iter_mut() {
         let want = claim.want();
@@ -109,10 +109,10 @@ fn one_more(remainder: u64, leftover: u64) -> u64
 
 /// Grants each claim its share of the room, and what is left over one by one, in order, where a share was rounded.
 fn grant_shares<C: Claim>(claims: &mut [C], room: u64, total: u64, leftover: u64)
-    requires small { all_within (map asks claims.old) ≡ true }
+    requires small { all_within (map C.asks claims.old) ≡ true }
     requires limit { room ≤ 1995262314 }
     requires short { room < total }
-    ensures { claims.new ≡ with_grants given claims.old (with_leftovers room total leftover (map asks claims.old)) }
+    ensures { claims.new ≡ with_grants C.given claims.old (with_leftovers room total leftover (map C.asks claims.old)) }
 {
     let mut left = leftover;
     for claim in claims.iter_mut() {
@@ -126,9 +126,9 @@ fn grant_shares<C: Claim>(claims: &mut [C], room: u64, total: u64, leftover: u64
 /// Grants each claim what it wants where the wants fit the room, and else its share.
 fn grant_room<C: Claim>(claims: &mut [C], room: u64)
     requires few { length claims.old ≤ 8 }
-    requires small { all_within (map asks claims.old) ≡ true }
+    requires small { all_within (map C.asks claims.old) ≡ true }
     requires limit { room ≤ 1995262314 }
-    ensures { claims.new ≡ with_grants given claims.old (split_of (map asks claims.old) room) }
+    ensures { claims.new ≡ with_grants C.given claims.old (split_of (map C.asks claims.old) room) }
 {
     let total = total_want(claims);
     if total <= room {
@@ -141,16 +141,16 @@ fn grant_room<C: Claim>(claims: &mut [C], room: u64)
 
 /// Splits a room among claims. Refused, with the claims as they were, where there are more than eight claims or a number is above the largest power.
 pub fn split<C: Claim>(claims: &mut [C], room: u64) -> Result<(), Refusal>
-    ensures answers { result ≡ answer (map asks claims.old) room }
-    ensures leaves { claims.new ≡ after asks given claims.old room }
+    ensures answers { result ≡ answer (map C.asks claims.old) room }
+    ensures leaves { claims.new ≡ after C.asks C.given claims.old room }
     ensures refused_changes_nothing { (e : Refusal) → result ≡ Err e → claims.new ≡ claims.old }
-    ensures wants_kept { map asks claims.new ≡ map asks claims.old }
-    ensures grants { OnOk result (map holds claims.new ≡ split_of (map asks claims.old) room) }
-    ensures whole_where_they_fit { OnOk result (WholeWhereTheyFit (map asks claims.old) room (map holds claims.new)) }
-    ensures room_spent_exactly { OnOk result (RoomSpentExactly (map asks claims.old) room (map holds claims.new)) }
-    ensures no_more_than_wanted { OnOk result (NoMoreThanWanted (map asks claims.old) room (map holds claims.new)) }
-    ensures within_one_nanowatt { OnOk result (WithinOneNanowatt (map asks claims.old) room (map holds claims.new)) }
-    ensures leftovers_in_order { OnOk result (LeftoversInOrder (map asks claims.old) room (map holds claims.new)) }
+    ensures wants_kept { map C.asks claims.new ≡ map C.asks claims.old }
+    ensures grants { OnOk result (map C.holds claims.new ≡ split_of (map C.asks claims.old) room) }
+    ensures whole_where_they_fit { OnOk result (WholeWhereTheyFit (map C.asks claims.old) room (map C.holds claims.new)) }
+    ensures room_spent_exactly { OnOk result (RoomSpentExactly (map C.asks claims.old) room (map C.holds claims.new)) }
+    ensures no_more_than_wanted { OnOk result (NoMoreThanWanted (map C.asks claims.old) room (map C.holds claims.new)) }
+    ensures within_one_nanowatt { OnOk result (WithinOneNanowatt (map C.asks claims.old) room (map C.holds claims.new)) }
+    ensures leftovers_in_order { OnOk result (LeftoversInOrder (map C.asks claims.old) room (map C.holds claims.new)) }
 {
     if !is_allowed(claims, room) {
         return Err(Refusal::OutOfRange);

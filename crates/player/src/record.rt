@@ -92,7 +92,7 @@ fn play_open<R: HoldingRule>(
     place: usize,
 ) -> Played
     requires { ticket ≡ ticket_of terminal.old.state }
-    ensures { PlaysRecord reserve place (numbered OpenKind []) (terminal.old.state, terminal.old.rule) (terminal.new.state, terminal.new.rule) result.ticket result.line }
+    ensures { PlaysRecord R.reserve place (numbered OpenKind []) (terminal.old.state, terminal.old.rule) (terminal.new.state, terminal.new.rule) result.ticket result.line }
 {
     match terminal.open() {
         Ok(opened) => match ticket {
@@ -118,7 +118,7 @@ fn play_want<R: HoldingRule>(
     want: RawWant,
 ) -> Played
     requires { Some ticket ≡ ticket_of terminal.old.state }
-    ensures { PlaysCalls reserve place (Want terminal.old.state.settled cell want ∷ []) (terminal.old.state, terminal.old.rule) (terminal.new.state, terminal.new.rule) result.ticket result.line }
+    ensures { PlaysCalls R.reserve place (Want terminal.old.state.settled cell want ∷ []) (terminal.old.state, terminal.old.rule) (terminal.new.state, terminal.new.rule) result.ticket result.line }
 {
     let line = match terminal.want(&ticket, cell, want) {
         Ok(()) => None,
@@ -137,7 +137,7 @@ fn play_settle<R: HoldingRule>(
     place: usize,
 ) -> Played
     requires { Some ticket ≡ ticket_of terminal.old.state }
-    ensures { PlaysRecord reserve place (numbered SettleKind []) (terminal.old.state, terminal.old.rule) (terminal.new.state, terminal.new.rule) result.ticket result.line }
+    ensures { PlaysRecord R.reserve place (numbered SettleKind []) (terminal.old.state, terminal.old.rule) (terminal.new.state, terminal.new.rule) result.ticket result.line }
 {
     let subframe = ticket.subframe();
     let settled = match terminal.settle(ticket) {
@@ -158,7 +158,7 @@ fn play_settle<R: HoldingRule>(
 /// DROP, with the ticket of the open subframe.
 fn play_drop<R: HoldingRule>(terminal: &mut Terminal<R>, ticket: OpenTicket, place: usize) -> Played
     requires { Some ticket ≡ ticket_of terminal.old.state }
-    ensures { PlaysRecord reserve place (numbered DropKind []) (terminal.old.state, terminal.old.rule) (terminal.new.state, terminal.new.rule) result.ticket result.line }
+    ensures { PlaysRecord R.reserve place (numbered DropKind []) (terminal.old.state, terminal.old.rule) (terminal.new.state, terminal.new.rule) result.ticket result.line }
 {
     let line = match terminal.drop_subframe(ticket) {
         Ok(()) => None,
@@ -187,7 +187,7 @@ fn play_plain<R: HoldingRule>(
 ) -> Played
     requires mine { ticket ≡ ticket_of terminal.old.state }
     requires plain { PlainCall call }
-    ensures { PlaysCalls reserve place (option_to_list call) (terminal.old.state, terminal.old.rule) (terminal.new.state, terminal.new.rule) result.ticket result.line }
+    ensures { PlaysCalls R.reserve place (option_to_list call) (terminal.old.state, terminal.old.rule) (terminal.new.state, terminal.new.rule) result.ticket result.line }
 {
     let line = match call {
         Some(call) => answer_line(place, 0, terminal.perform(call)),
@@ -205,7 +205,7 @@ pub(crate) fn play_record<R: HoldingRule>(
 ) -> Played
     requires mine { ticket ≡ ticket_of terminal.old.state }
     requires in_place { out_of_place (is_open terminal.old.state.subframe) (content «record») ≡ false }
-    ensures { PlaysRecord reserve place (content «record».entry) (terminal.old.state, terminal.old.rule) (terminal.new.state, terminal.new.rule) result.ticket result.line }
+    ensures { PlaysRecord R.reserve place (content «record».entry) (terminal.old.state, terminal.old.rule) (terminal.new.state, terminal.new.rule) result.ticket result.line }
 {
     match record {
         Record::Open => play_open(terminal, ticket, place),

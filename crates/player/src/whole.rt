@@ -30,7 +30,7 @@ fn play_item<R: HoldingRule>(
 ) -> Turn
     requires mine { ticket ≡ ticket_of terminal.old.state }
     requires in_place { InPlace (is_open terminal.old.state.subframe) (body_read item) }
-    ensures { PlaysItem reserve place (body_read item.entry) (terminal.old.state, terminal.old.rule) (terminal.new.state, terminal.new.rule) result.ticket result.line result.ends }
+    ensures { PlaysItem R.reserve place (body_read item.entry) (terminal.old.state, terminal.old.rule) (terminal.new.state, terminal.new.rule) result.ticket result.line result.ends }
 {
     match item {
         Ok(record) => {
@@ -74,8 +74,8 @@ pub fn play<R: HoldingRule + Drop>(
     rule: R,
     recording: &[u8],
 ) -> Result<Vec<Line>, AllocError>
-    ensures lines { IfOk result (λ v. v.items ≡ lines_of reserve rule recording.now) }
-    ensures lines_of_the_records { LinesOfTheRecords reserve rule recording.now }
+    ensures lines { IfOk result (λ v. v.items ≡ lines_of R.reserve rule recording.now) }
+    ensures lines_of_the_records { LinesOfTheRecords R.reserve rule recording.now }
 {
     let mut lines = Vec::with_capacity(heap, recording.len())?;
     let mut terminal = Terminal::new(rule);
@@ -105,7 +105,7 @@ pub fn play_text<R: HoldingRule + Drop>(
     rule: R,
     recording: &[u8],
 ) -> Result<String, AllocError>
-    ensures { IfOk result (λ t. string_bytes t ≡ flat_map line_bytes (lines_of reserve rule recording.now)) }
+    ensures { IfOk result (λ t. string_bytes t ≡ flat_map line_bytes (lines_of R.reserve rule recording.now)) }
 {
     let lines = play(heap, rule, recording)?;
     transcript(heap, lines.as_slice())

@@ -32,7 +32,7 @@ pub fn settle<R: HoldingRule>(
     cells: &[Cell; 8],
     wants: &[CellWants; 8],
 ) -> Outcome
-    ensures value { result ≡ outcome_of (reserve rule.now) budget.now.shares cells.now wants.now }
+    ensures value { result ≡ outcome_of (R.reserve rule.now) budget.now.shares cells.now wants.now }
     ensures cells_add_up_to_groups { Settleable budget.now.shares cells.now wants.now → CellsAddUp result }
 {
     let powers = wanted_all(cells, wants);

@@ -65,7 +65,7 @@ fn claim_of_rival(reserves: PerGroup, already: PerGroup, group: Group, ranks: &[
 
 /// What a rule reserves for each group.
 fn ask<R: HoldingRule>(rule: &R, guarantees: PerGroup, wanted: PerGroup) -> PerGroup
-    ensures { result ≡ reserved (reserve rule.now) guarantees wanted }
+    ensures { result ≡ reserved (R.reserve rule.now) guarantees wanted }
 {
     PerGroup {
         master: rule.reserve(guarantees.master, wanted.master),
@@ -81,7 +81,7 @@ impl Demand {
         already: PerGroup,
         ranks: &[Rank],
     ) -> Result<Demand, Refusal>
-        ensures answers { result ≡ refused_or (demand_refusal already ranks.now) (demand_of (reserve rule.now) budget.now.shares.guarantees already ranks.now) }
+        ensures answers { result ≡ refused_or (demand_refusal already ranks.now) (demand_of (R.reserve rule.now) budget.now.shares.guarantees already ranks.now) }
         ensures ranks_ahead { (X : Group) → RanksAhead X ranks.now }
     {
         let wanted = PerGroup {
@@ -119,8 +119,8 @@ pub fn fits<R: HoldingRule>(
     ranks: &[Rank],
     group: Group,
 ) -> Result<bool, Refusal>
-    ensures answers { result ≡ refused_or (demand_refusal already ranks.now) (fits_test budget.now.shares.total (at_group group budget.now.shares.guarantees) (whole_want already group ranks.now) (rival_claim (reserves_by (reserve rule.now) budget.now.shares.guarantees already ranks.now) already group ranks.now)) }
-    ensures exact_fit_condition { IfOk result (λ b. Decides b (Fits budget.now.shares.total (at_group group budget.now.shares.guarantees) (whole_want already group ranks.now) (rival_claim (reserves_by (reserve rule.now) budget.now.shares.guarantees already ranks.now) already group ranks.now))) }
+    ensures answers { result ≡ refused_or (demand_refusal already ranks.now) (fits_test budget.now.shares.total (at_group group budget.now.shares.guarantees) (whole_want already group ranks.now) (rival_claim (reserves_by (R.reserve rule.now) budget.now.shares.guarantees already ranks.now) already group ranks.now)) }
+    ensures exact_fit_condition { IfOk result (λ b. Decides b (Fits budget.now.shares.total (at_group group budget.now.shares.guarantees) (whole_want already group ranks.now) (rival_claim (reserves_by (R.reserve rule.now) budget.now.shares.guarantees already ranks.now) already group ranks.now))) }
 {
     let demand = Demand::new(rule, budget, already, ranks)?;
     Ok(demand.fits(budget.shares, group))

@@ -53,8 +53,8 @@ pub fn share<R: HoldingRule>(
     already: PerGroup,
     ranks: &mut [Rank],
 ) -> Result<Sharing, Refusal>
-    ensures answers { result ≡ refused_or (demand_refusal already ranks.old) (sharing_of (reserve rule.now) budget.now.shares already ranks.old) }
-    ensures leaves { ranks.new ≡ unchanged_or (demand_refusal already ranks.old) (shared_by (reserve rule.now) budget.now.shares already ranks.old) ranks.old }
+    ensures answers { result ≡ refused_or (demand_refusal already ranks.old) (sharing_of (R.reserve rule.now) budget.now.shares already ranks.old) }
+    ensures leaves { ranks.new ≡ unchanged_or (demand_refusal already ranks.old) (shared_by (R.reserve rule.now) budget.now.shares already ranks.old) ranks.old }
     ensures refused_changes_nothing { (e : Refusal) → result ≡ Err e → ranks.new ≡ ranks.old }
     ensures room_at_every_rank { IfOk result (λ s. RoomAtEveryRank budget.now.shares.total budget.now.shares.guarantees s.demand.reserves already ranks.new) }
     ensures exact_fit { IfOk result (λ s. MadeWithin s.demand.reserves already → ExactFit budget.now.shares.total budget.now.shares.guarantees s.demand.reserves already ranks.new) }

@@ -121,7 +121,7 @@ impl<R: HoldingRule> Terminal<R> {
     /// SETTLE: moves every loop and shares the total among the wants. A refused SETTLE hands its ticket back.
     pub fn settle(&mut self, ticket: OpenTicket) -> Result<SettledTicket, Unsettled>
         ensures answers { result ≡ settled_or_back (first_that_holds (refuses_open_ticket self.old.state ticket.subframe)) ticket }
-        ensures leaves { self.new.state ≡ unchanged_or (first_that_holds (refuses_open_ticket self.old.state ticket.subframe)) (settled_state (reserve self.old.rule) self.old.state) self.old.state }
+        ensures leaves { self.new.state ≡ unchanged_or (first_that_holds (refuses_open_ticket self.old.state ticket.subframe)) (settled_state (R.reserve self.old.rule) self.old.state) self.old.state }
         ensures rule_settled { self.new.rule ≡ unchanged_or (first_that_holds (refuses_open_ticket self.old.state ticket.subframe)) (rule_settled self.old.rule) self.old.rule }
         ensures refused_exactly { FirstThatHolds (refuses_open_ticket self.old.state ticket.subframe) (why_back result) }
         ensures refused_changes_nothing { (u : Unsettled) → result ≡ Err u → (self.new.state ≡ self.old.state) × (self.new.rule ≡ self.old.rule) }

@@ -22,7 +22,7 @@ impl<R: HoldingRule> Terminal<R> {
     /// Makes the call. Its tickets are made from their numbers, and spent.
     fn make(&mut self, call: Call) -> Answer
         ensures answers { result ≡ answer_to self.old.state call }
-        ensures leaves { self.new.state ≡ state_after (reserve self.old.rule) self.old.state call }
+        ensures leaves { self.new.state ≡ state_after (R.reserve self.old.rule) self.old.state call }
         ensures leaves_rule { self.new.rule ≡ rule_after self.old.state self.old.rule call }
     {
         match call {
@@ -71,7 +71,7 @@ impl<R: HoldingRule> Terminal<R> {
 
     /// Makes any call, with a ticket of any number, and answers what it answered.
     pub fn perform(&mut self, call: Call) -> Answer
-        ensures { Performs reserve call self.old.state self.new.state self.old.rule self.new.rule result }
+        ensures { Performs R.reserve call self.old.state self.new.state self.old.rule self.new.rule result }
     {
         self.make(call)
     }

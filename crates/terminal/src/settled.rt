@@ -52,9 +52,9 @@ fn settled<R: HoldingRule>(rule: &R, state: &State) -> State
     requires settleable { ∥ Settleable (shares_in_force state.now) (moved_cells state.now) (wants_in state.now.subframe) ∥₁ }
     requires sums_within { SumsWithin state.now.settled state.now.sums }
     requires one_left { state.now.settled < 864000000 }
-    ensures value { result ≡ settled_state (reserve rule.now) state.now }
-    ensures most { SumsWithin 1 (settlement (reserve rule.now) state.now).groups }
-    ensures cells_add_up_to_groups { CellsAddUp (settlement (reserve rule.now) state.now) }
+    ensures value { result ≡ settled_state (R.reserve rule.now) state.now }
+    ensures most { SumsWithin 1 (settlement (R.reserve rule.now) state.now).groups }
+    ensures cells_add_up_to_groups { CellsAddUp (settlement (R.reserve rule.now) state.now) }
 {
     let wants = state.wants();
     let mut cells = state.cells;
@@ -75,9 +75,9 @@ pub(crate) fn settle_open<R: HoldingRule>(rule: &R, state: &mut State)
     requires settleable { ∥ Settleable (shares_in_force state.old) (moved_cells state.old) (wants_in state.old.subframe) ∥₁ }
     requires sums_within { SumsWithin state.old.settled state.old.sums }
     requires one_left { state.old.settled < 864000000 }
-    ensures leaves { state.new ≡ settled_state (reserve rule.now) state.old }
-    ensures most { SumsWithin 1 (settlement (reserve rule.now) state.old).groups }
-    ensures cells_add_up_to_groups { CellsAddUp (settlement (reserve rule.now) state.old) }
+    ensures leaves { state.new ≡ settled_state (R.reserve rule.now) state.old }
+    ensures most { SumsWithin 1 (settlement (R.reserve rule.now) state.old).groups }
+    ensures cells_add_up_to_groups { CellsAddUp (settlement (R.reserve rule.now) state.old) }
 {
     let next = settled(rule, state);
     *state = next;

@@ -9,4 +9,4 @@ invariant_of-result c =
     let is = (accepted _ _ _ _ c.in_ok-guarantees.ensures).1 in
     let m = ap (λ (p : PerGroup). p.master) is in
     let s = ap (λ (p : PerGroup). p.secondary) is in
-    (omega (arith, m, s, sum_kept c.args.total c.args.master c.args.secondary c.if-master-secondary-gt100.false), tt)
+    record { kept = omega (arith, m, s, sum_kept c.args.total c.args.master c.args.secondary c.if-master-secondary-gt100.false) }

@@ -1,5 +1,5 @@
 -- A table of p mantissas, for any p: its rule by one computed test, and the power that it gives at each step of ten decades.
-use Rattle.std.proofs.Common.{◌≡◌, ℕ, zero, suc, ◌+◌, ◌-◌, ◌*◌, ◌/◌, ◌%◌, ◌^◌, ◌<◌, ◌≤◌, Bool, true, ◌&&◌, ltb, leb, List, [], ◌∷◌, length, get_or, sym, ap, ◌∙◌, subst, add-zero, mod-lt, mul_comm, div-lt_iff_lt-mul, add-mul, arith, lit<, pow-add}
+use Rattle.std.proofs.Common.{◌≡◌, ℕ, zero, suc, ◌+◌, ◌-◌, ◌*◌, ◌/◌, ◌%◌, ◌^◌, ◌<◌, ◌≤◌, Bool, true, ◌&&◌, ltb, leb, List, [], ◌∷◌, length, get_or, ap, ◌∙◌, subst, add-zero, mod-lt, mul_comm, div-lt_iff_lt-mul, add-mul, arith, lit<, pow-add}
 use native.Mathlib.Nat.{mod-add-div, pow-le-pow_right}
 use Rattle.std.proofs.lemmas.Bool.{and_parts, leb-true, ltb-true}
 use Rattle.levels.specs.Levels.{Root, LargestMantissas, scaled}

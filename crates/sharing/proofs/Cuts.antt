@@ -1,11 +1,11 @@
 -- The room at each rank, told by what stands before and after it.
-use Rattle.std.proofs.Common.{◌≡◌, ℕ, ◌+◌, ◌≤◌, min, max, List, [], ◌∷◌, ◌++◌, sym, refl, ap, ◌∙◌, subst, arith}
+use Rattle.std.proofs.Common.{◌≡◌, ℕ, ◌+◌, ◌≤◌, min, List, [], ◌∷◌, ◌++◌, refl, ap, ◌∙◌, subst, arith}
 use Rattle.sharing.specs.declared.groups.Group.{Group}
 use Rattle.sharing.specs.declared.groups.Group.TheVariants.{Master, Secondary}
 use Rattle.sharing.specs.declared.groups.PerGroup.{PerGroup}
 use Rattle.sharing.specs.declared.ranks.Rank.{Rank}
-use Rattle.sharing.specs.Groups.{rival, at_group, more_for, if_group}
-use Rattle.sharing.specs.Ranks.{served_in, wanted_by, granted_to, whole_want, whole_grant, grants_of}
+use Rattle.sharing.specs.Groups.{rival, at_group, more_for}
+use Rattle.sharing.specs.Ranks.{served_in, wanted_by, whole_grant, grants_of}
 use Rattle.sharing.specs.Sharing.{reserves_by, room_at, served}
 use Rattle.sharing.specs.Verdict.{MadeWithin, RoomAtEveryRank}
 use Rattle.sharing.specs.Remainder.{remainder_at, StandardRemainder}

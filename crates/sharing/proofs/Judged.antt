@@ -1,12 +1,12 @@
 -- The verdict on a sharing: of the master group, and of the secondary group by the same with the groups exchanged.
-use Rattle.std.proofs.Common.{◌≡◌, ℕ, ◌+◌, ◌<◌, ◌≤◌, min, max, ◌⊎◌, ◌↔◌, List, [], ◌∷◌, refl, ap, ◌∙◌, inl, inr, arith}
+use Rattle.std.proofs.Common.{◌≡◌, ℕ, ◌+◌, ◌<◌, ◌≤◌, min, max, ◌↔◌, List, [], ◌∷◌, refl, ap, inl, inr, arith}
 use Rattle.std.proofs.lemmas.Bool.Decides.{leb_tells}
 use Rattle.sharing.specs.declared.groups.Group.{Group}
 use Rattle.sharing.specs.declared.groups.Group.TheVariants.{Master, Secondary}
 use Rattle.sharing.specs.declared.groups.PerGroup.{PerGroup}
 use Rattle.sharing.specs.declared.ranks.Rank.{Rank}
-use Rattle.sharing.specs.Groups.{rival, at_group, if_group, more_for}
-use Rattle.sharing.specs.Ranks.{wanted_by, granted_to, ahead_of, whole_want, whole_grant}
+use Rattle.sharing.specs.Groups.{rival, at_group, if_group}
+use Rattle.sharing.specs.Ranks.{wanted_by, ahead_of, whole_want}
 use Rattle.sharing.specs.Sharing.{rival_claim, room_at, served}
 use Rattle.sharing.specs.Verdict.{Fits, MadeWithin, ExactFit, GuaranteedShare, NoMoreThanWanted, WithinTotal}
 use Rattle.sharing.proofs.Along.{of_group, by_group, gets, then, gets_most, kept, limited, floor, fit, clear}

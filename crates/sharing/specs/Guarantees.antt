@@ -2,7 +2,7 @@
 use Rattle.std.specs.Prelude.{ℕ, ◌+◌, ◌*◌, ◌/◌, ◌||◌, [], ◌∷◌, Ok, Err, Option, Result, nat_lt}
 use Rattle.refusals.specs.declared.Refusal.{Refusal}
 use Rattle.refusals.specs.declared.Refusal.TheVariants.{OutOfRange, PercentagesAbove100}
-use Rattle.refusals.specs.First.{when, first_that_holds, refused_or}
+use Rattle.refusals.specs.First.{when, first_that_holds}
 use Rattle.sharing.specs.declared.budget.Budget.{Budget}
 use Rattle.sharing.specs.declared.groups.Shares.{Shares}
 

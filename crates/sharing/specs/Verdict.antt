@@ -5,7 +5,7 @@ use Rattle.sharing.specs.declared.groups.Group.TheVariants.{Master, Secondary}
 use Rattle.sharing.specs.declared.groups.PerGroup.{PerGroup}
 use Rattle.sharing.specs.declared.ranks.Rank.{Rank}
 use Rattle.sharing.specs.Groups.{rival, at_group}
-use Rattle.sharing.specs.Ranks.{wanted_by, granted_to, ahead_of, whole_want, whole_grant, grants_of}
+use Rattle.sharing.specs.Ranks.{wanted_by, ahead_of, whole_want, whole_grant, grants_of}
 use Rattle.sharing.specs.Sharing.{rival_claim, room_at}
 
 -- a want fits where it is at most the guarantee, or where it and the rival claim are at most the total together

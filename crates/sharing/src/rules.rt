@@ -1,6 +1,6 @@
 // How much of its guarantee a group holds in reserve while its rival is served.
 ghost use Rattle.std.specs.Prelude.{◌≡◌, ℕ, ◌≤◌, min};
-ghost use Rattle.std.proofs.Common.{rules};
+ghost use Rattle.std.proofs.Math.Nat.{min-le_left, le_refl};
 
 /// A holding rule: its meaning is one function of a group's guarantee and want. It refuses nothing, and asked twice it answers the same.
 pub trait HoldingRule {
@@ -23,9 +23,9 @@ pub struct Aligned;
 impl HoldingRule for Aligned {
     ghost reserve = { λ _ g w. min g w };
 
-    ghost at_least = { Prim.search rules };
+    ghost at_least = { λ _ g w. le_refl (min g w) };
 
-    ghost at_most = { Prim.search rules };
+    ghost at_most = { λ _ g w. min-le_left g w };
 
     fn reserve(&self, guarantee: u64, want: u64) -> u64 {
         guarantee.min(want)
@@ -39,9 +39,9 @@ pub struct Full;
 impl HoldingRule for Full {
     ghost reserve = { λ _ g _. g };
 
-    ghost at_least = { Prim.search rules };
+    ghost at_least = { λ _ g w. min-le_left g w };
 
-    ghost at_most = { Prim.search rules };
+    ghost at_most = { λ _ g _. le_refl g };
 
     fn reserve(&self, guarantee: u64, _want: u64) -> u64 {
         guarantee

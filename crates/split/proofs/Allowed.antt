@@ -1,5 +1,5 @@
 -- What is within the limits, and what a split that is allowed answers.
-use Rattle.std.proofs.Common.{◌≡◌, ℕ, ◌+◌, ◌*◌, ◌/◌, ◌^◌, ◌<◌, ◌≤◌, Bool, true, false, ◌&&◌, leb, List, [], ◌∷◌, map, length, Ok, Err, sym, refl, ap, arith}
+use Rattle.std.proofs.Common.{◌≡◌, ℕ, ◌*◌, ◌^◌, ◌<◌, ◌≤◌, Bool, true, false, ◌&&◌, leb, List, [], ◌∷◌, map, length, Ok, Err, sym, refl, ap, arith}
 use Rattle.std.proofs.lemmas.Bool.{leb-true, and_parts, and_left, cond-true, cond-false}
 use Rattle.std.proofs.lemmas.Nat.{mul-le}
 use Rattle.refusals.specs.declared.Refusal.TheVariants.{OutOfRange}

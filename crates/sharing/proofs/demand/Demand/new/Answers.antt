@@ -1,7 +1,5 @@
-use Rattle.std.proofs.Common.{◌≡◌, sym, ◌∙◌}
+use Rattle.std.proofs.Common.{◌∙◌}
 use Rattle.std.proofs.lemmas.Result.{err_from_is_err_and}
-use Rattle.sharing.specs.declared.groups.Group.TheVariants.{Master, Secondary}
-use Rattle.sharing.specs.Ranks.{whole_want}
 use Rattle.sharing.proofs.Accepted.{accepted, first_refused, second_refused, both_accepted}
 use Rattle.sharing.proofs.Steps.{demand_is, ranks_ahead}
 use Rattle.sharing.proofs.demand.Demand.new.Goals as goal

@@ -1,5 +1,5 @@
 -- What a field in its range is bounded by.
-use Rattle.std.proofs.Common.{◌≡◌, ℕ, ◌≤◌, Bool, true, false, not, ltb, List, ℤ, pos, negsuc, ◌≤ℤ◌, None, refl, arith}
+use Rattle.std.proofs.Common.{◌≡◌, ℕ, ◌≤◌, false, not, ltb, List, ℤ, pos, negsuc, ◌≤ℤ◌, None, arith}
 use Rattle.std.proofs.lemmas.Int.{ints}
 use Rattle.std.proofs.lemmas.Bool.Decides.{nat_tests}
 use Rattle.refusals.specs.declared.Condition.{Condition}

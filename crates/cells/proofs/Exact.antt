@@ -1,10 +1,10 @@
 -- A data want is close below the exact power, on its own and among the wants of a cell.
-use Rattle.std.proofs.Common.{◌≡◌, ℕ, ◌+◌, ◌-◌, ◌*◌, ◌^◌, ◌<◌, ◌≤◌, min, Bool, false, ◌||◌, ltb, ℤ, pos, negsuc, ◌≤ℤ◌, ◌<ℤ◌, Some, None, Option, sym, refl, ap, ◌∙◌, subst, mul_comm, add-mul, mul-le-mul_left, one-mul, zero-mul, mul-one, arith, lit<}
+use Rattle.std.proofs.Common.{◌≡◌, ℕ, ◌+◌, ◌-◌, ◌*◌, ◌^◌, ◌<◌, ◌≤◌, min, false, ◌||◌, ltb, pos, negsuc, ◌≤ℤ◌, ◌<ℤ◌, Some, None, Option, sym, refl, ap, ◌∙◌, subst, mul_comm, add-mul, mul-le-mul_left, one-mul, zero-mul, mul-one, arith, lit<}
 use native.Mathlib.Nat.{mul-lt-mul_of_pos_left, pow-le-pow_right}
 use Rattle.std.proofs.lemmas.Int.{ints, by_lt_z}
 use Rattle.std.proofs.lemmas.Bool.Decides.{nat_tests}
 use Rattle.levels.specs.declared.Level.{Level}
-use Rattle.levels.specs.Levels.{W, steps, power, Root, InRange}
+use Rattle.levels.specs.Levels.{W, steps, power, Root}
 use Rattle.levels.proofs.Rule.{W_below, W_at_399, in_range_largest, monotone}
 use Rattle.levels.proofs.Roots.{mul_pow, pow_above}
 use Rattle.cells.specs.declared.settings.Settings.{Settings}

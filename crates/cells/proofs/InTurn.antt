@@ -1,7 +1,7 @@
 -- One cell after the other.
-use Rattle.std.proofs.Common.{◌≡◌, ℕ, ◌+◌, ◌<◌, ◌≤◌, List, [], ◌∷◌, ◌++◌, length, get_or, take, drop, set, pos, None, sym, refl, ap, ◌∙◌, subst, append_assoc, append-nil, arith, drop-set-lt}
+use Rattle.std.proofs.Common.{◌≡◌, ℕ, ◌+◌, ◌<◌, ◌≤◌, List, [], ◌∷◌, ◌++◌, length, get_or, take, drop, set, pos, None, refl, ap, append_assoc, append-nil, arith, drop-set-lt}
 use Rattle.std.proofs.lemmas.List.{take_more_set, drop_more, take_all, drop_all}
-use Rattle.std.specs.List.{AllByRecursion as All}
+use Rattle.std.specs.List.{AllByRecursion}
 use Rattle.cells.specs.declared.cell.Cell.{Cell}
 use Rattle.cells.specs.declared.wants.CellWants.{CellWants}
 use Rattle.cells.specs.declared.powers.Powers.{Powers}
@@ -43,7 +43,7 @@ moved_more ks ws n i k h g e =
     let wants = drop_more ws i no_wants g in
     rw (done, left, cells, wants, append_assoc) (ap (λ (x : Cell). take i ks ++ (x ∷ all_moved (drop (i + 1) ks) (drop (i + 1) ws) n)) e)
 
-pub all_in_range : (ks : List Cell) (ws : List CellWants) (n : ℕ) → All CellInRange ks → All WantsInRange ws → All CellInRange (all_moved ks ws n)
+pub all_in_range : (ks : List Cell) (ws : List CellWants) (n : ℕ) → AllByRecursion CellInRange ks → AllByRecursion WantsInRange ws → AllByRecursion CellInRange (all_moved ks ws n)
 unfolding all_moved
 all_in_range [] ws n hk hw = tt
 all_in_range (k ∷ ks) [] n hk hw = hk

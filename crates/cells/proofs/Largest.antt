@@ -1,5 +1,5 @@
 -- No cell wants more than the power of its maximum.
-use Rattle.std.proofs.Common.{◌≡◌, ℕ, ◌+◌, ◌-◌, ◌≤◌, min, ℤ, pos, Some, None, Option, sym, refl, subst, arith}
+use Rattle.std.proofs.Common.{◌≡◌, ℕ, ◌+◌, ◌-◌, ◌≤◌, ℤ, pos, Some, None, Option, sym, refl, subst, arith}
 use Rattle.levels.specs.Levels.{W, scaled, mantissas, power}
 use Rattle.levels.proofs.Rule.{monotone}
 use Rattle.cells.specs.declared.settings.Settings.{Settings}

@@ -1,11 +1,10 @@
 -- No loop leaves its limits.
-use Rattle.std.proofs.Common.{◌≡◌, ℕ, zero, suc, ◌+◌, ◌*◌, ◌/◌, ◌<◌, ◌≤◌, max, Bool, true, false, cond, not, ◌||◌, ltb, ◌⊎◌, ℤ, pos, negsuc, ◌+ℤ◌, ◌≤ℤ◌, ◌<ℤ◌, Some, None, Option, sym, refl, ap, ◌∙◌, subst, inl, inr, mul-le-mul, zero-mul, mul-one, arith}
+use Rattle.std.proofs.Common.{◌≡◌, ℕ, ◌*◌, ◌<◌, ◌≤◌, max, false, cond, not, ℤ, pos, negsuc, ◌+ℤ◌, ◌≤ℤ◌, ◌<ℤ◌, Some, None, Option, ap, inl, inr, mul-le-mul, zero-mul, mul-one, arith}
 use Rattle.std.specs.Int.{saturate_to_bits}
 use Rattle.std.proofs.lemmas.Int.{ints, by_lt_z}
 use Rattle.std.proofs.lemmas.Bool.Decides.{nat_tests, leb_tells}
-use Rattle.refusals.specs.First.{NoneHolds}
 use Rattle.levels.specs.declared.Level.{Level}
-use Rattle.levels.specs.Levels.{W, power}
+use Rattle.levels.specs.Levels.{power}
 use Rattle.levels.proofs.Rule.{W_below, monotone}
 use Rattle.cells.specs.declared.settings.LoopKind.{LoopKind}
 use Rattle.cells.specs.declared.settings.LoopKind.TheVariants.{Accumulating, Absolute}
@@ -20,7 +19,7 @@ use Rattle.cells.specs.declared.wants.CellWants.{CellWants}
 use Rattle.cells.specs.declared.wants.Want.TheVariants.{Control, Data}
 use Rattle.cells.specs.declared.cell.Cell.{Cell}
 use Rattle.cells.specs.Numbers.{format_number}
-use Rattle.cells.specs.Ranges.{SettingsInRange, raw_settings_of, loss_conditions}
+use Rattle.cells.specs.Ranges.{SettingsInRange, raw_settings_of}
 use Rattle.cells.specs.WantRanges.{IfSome, WantInRange, WantsInRange, control_size_fits}
 use Rattle.cells.specs.Cells.{InLimits, CellInRange}
 use Rattle.cells.specs.Commands.{step_of, due}

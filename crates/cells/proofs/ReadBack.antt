@@ -1,5 +1,5 @@
 -- What was accepted has the numbers that the call brought.
-use Rattle.std.proofs.Common.{◌≡◌, ℕ, zero, suc, ◌≤◌, Bool, true, false, cond, not, ◌||◌, eqb, ltb, List, [], ◌∷◌, ℤ, pos, negsuc, ◌+ℤ◌, ◌*ℤ◌, nat_abs, IfOk, Some, None, Option, Result, sym, refl, ap, ◌∙◌, subst, arith}
+use Rattle.std.proofs.Common.{◌≡◌, ℕ, zero, suc, ◌≤◌, true, false, cond, not, eqb, List, [], ◌∷◌, ℤ, pos, nat_abs, IfOk, Some, None, Option, Result, sym, refl, ap, ◌∙◌, subst, arith}
 use Rattle.std.proofs.lemmas.Int.{ints}
 use Rattle.std.proofs.lemmas.Bool.Decides.{nat_tests}
 use Rattle.refusals.specs.declared.Refusal.{Refusal}
@@ -16,7 +16,7 @@ use Rattle.cells.specs.declared.wants.RawWant.{RawWant}
 use Rattle.cells.specs.declared.wants.Want.{Want}
 use Rattle.cells.specs.declared.wants.Want.TheVariants.{Control, Data, Sounding}
 use Rattle.cells.specs.Numbers.{loop_kind_number, loop_kind_of, format_number, format_of, class_of}
-use Rattle.cells.specs.Ranges.{outside, settings_conditions, settings_of, raw_settings_of}
+use Rattle.cells.specs.Ranges.{settings_conditions, settings_of, raw_settings_of}
 use Rattle.cells.specs.WantRanges.{is_class, control_size_fits, control_conditions, data_conditions, sounding_conditions, control_of, data_of, sounding_of, want_conditions, want_of, raw_want_of, WantInRange}
 use Rattle.cells.proofs.Bounds.{none_holds, settings_bounds, low_end, high_end, at_most}
 

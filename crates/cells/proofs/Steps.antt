@@ -1,11 +1,11 @@
 -- The rule of the loops holds of what they move to.
-use Rattle.std.proofs.Common.{◌≡◌, ℕ, ◌<◌, ◌≤◌, cond, List, ℤ, pos, negsuc, ◌+ℤ◌, ◌<ℤ◌, Some, None, Option, sym, refl, ap, ◌∙◌, subst, arith}
+use Rattle.std.proofs.Common.{◌≡◌, ℕ, ◌<◌, ◌≤◌, cond, List, ℤ, pos, ◌+ℤ◌, ◌<ℤ◌, Some, None, Option, sym, ap, ◌∙◌, subst, arith}
 use Rattle.std.specs.Int.{saturate_to_bits}
 use Rattle.std.proofs.lemmas.Int.{ints}
 use Rattle.std.proofs.lemmas.Bool.Decides.{nat_tests}
 use Rattle.levels.specs.Levels.{power}
 use Rattle.cells.specs.declared.settings.LoopKind.{LoopKind}
-use Rattle.cells.specs.declared.settings.LoopKind.TheVariants.{Accumulating, Absolute}
+use Rattle.cells.specs.declared.settings.LoopKind.TheVariants.{Accumulating}
 use Rattle.cells.specs.declared.settings.Settings.{Settings}
 use Rattle.cells.specs.declared.commands.TpcCommand.{TpcCommand}
 use Rattle.cells.specs.declared.wants.CellWants.{CellWants}
@@ -14,7 +14,7 @@ use Rattle.cells.specs.WantRanges.{IfSome}
 use Rattle.cells.specs.Cells.{InLimits}
 use Rattle.cells.specs.Commands.{step_of, due, taken}
 use Rattle.cells.specs.Powers.{data_values, raw_data, raw_control}
-use Rattle.cells.specs.Loops.{ignored, with_step, commanded_data, moved_data, moved_control, with_loops, moved_with, moved}
+use Rattle.cells.specs.Loops.{ignored, with_step, commanded_data, moved_data, moved_control, moved_with, moved}
 use Rattle.cells.specs.LoopRule.{TakesStep, MovesByCommands}
 use Rattle.cells.proofs.Limits.{plain_sum, step_low, step_high}
 

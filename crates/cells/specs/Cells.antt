@@ -1,5 +1,5 @@
 -- What a terminal keeps of a cell.
-use Rattle.std.specs.Prelude.{ℕ, List, [], ◌∷◌, ℤ, pos, negsuc, ◌≤ℤ◌, Some, None, Option}
+use Rattle.std.specs.Prelude.{ℕ, [], ◌∷◌, ℤ, pos, negsuc, ◌≤ℤ◌, Some, None}
 use Rattle.refusals.specs.First.{NoneHolds}
 use Rattle.cells.specs.declared.settings.Settings.{Settings}
 use Rattle.cells.specs.declared.cell.Cell.{Cell}

@@ -1,5 +1,5 @@
 -- What is promised of the powers that a cell wants.
-use Rattle.std.specs.Prelude.{◌≡◌, ℕ, ◌+◌, ◌-◌, ◌*◌, ◌^◌, ◌<◌, ◌≤◌, ℤ, pos, negsuc, ◌≤ℤ◌, ◌<ℤ◌, Some, None, Option}
+use Rattle.std.specs.Prelude.{◌≡◌, ℕ, ◌+◌, ◌-◌, ◌*◌, ◌^◌, ◌<◌, ◌≤◌, pos, negsuc, ◌≤ℤ◌, ◌<ℤ◌, Some, None, Option}
 use Rattle.levels.specs.declared.Level.{Level}
 use Rattle.levels.specs.Levels.{steps, power}
 use Rattle.cells.specs.declared.settings.Settings.{Settings}

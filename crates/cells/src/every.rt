@@ -1,6 +1,6 @@
 // All eight cells of a terminal.
 ghost use Rattle.std.specs.Prelude.{◌≡◌};
-ghost use Rattle.std.specs.List.{AllByRecursion as All};
+ghost use Rattle.std.specs.List.{AllByRecursion};
 ghost use Rattle.cells.specs.Cells.{CellInRange};
 ghost use Rattle.cells.specs.WantRanges.{WantsInRange};
 ghost use Rattle.cells.specs.Promises.{WithinMaximum};
@@ -13,7 +13,7 @@ use crate::wants::CellWants;
 /// Moves the loops of every cell by the commands that wait for a subframe.
 pub fn move_all(cells: &mut [Cell; 8], wants: &[CellWants; 8], subframe: u32)
     ensures leaves { cells.new ≡ all_moved cells.old wants.now subframe }
-    ensures loop_limits { All CellInRange cells.old → All WantsInRange wants.now → All CellInRange cells.new }
+    ensures loop_limits { AllByRecursion CellInRange cells.old → AllByRecursion WantsInRange wants.now → AllByRecursion CellInRange cells.new }
 {
     for place in 0..8 {
         cells[place].move_loops(wants[place], subframe);

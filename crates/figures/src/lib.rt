@@ -3,7 +3,7 @@
 #![tactic(auto)]
 
 ghost use Rattle.std.specs.Prelude.{◌≡◌};
-ghost use Rattle.std.specs.List.{AllByRecursion as All};
+ghost use Rattle.std.specs.List.{AllByRecursion};
 ghost use Rattle.figures.specs.Figures.{bench_list, Right};
 
 /// A figure of the bench: one worked case and what the rules give for it. Levels in tenths of a dBm, powers in nanowatts.
@@ -31,7 +31,7 @@ pub enum Figure {
 /// The figures of the bench, every one of them what the rules give.
 pub fn worked_figures() -> [Figure; 11]
     ensures listed { result ≡ bench_list }
-    ensures worked_figures { All Right result }
+    ensures worked_figures { AllByRecursion Right result }
 {
     written_list()
 }

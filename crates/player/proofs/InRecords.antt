@@ -1,6 +1,6 @@
 -- The lines of a recording are those of the records that it is cut into.
 use Rattle.std.proofs.Common.{◌≡◌, ℕ, zero, suc, ◌+◌, ◌<◌, ◌≤◌, Bool, true, false, cond, List, [], ◌∷◌, ◌++◌, length, drop, Some, None, Ok, Err, Option, Result, sym, refl, ap, ◌∙◌, subst, inl, inr, append_assoc, append-nil, add-zero, zero-add, arith, length-append, length-drop}
-use Rattle.std.specs.List.{flat_map, AllByRecursion as All}
+use Rattle.std.specs.List.{flat_map, AllByRecursion}
 use Rattle.faults.specs.declared.RecordFault.{RecordFault}
 use Rattle.faults.specs.Faults.{ends_run, EndsRun, truncated, malformed, bad_body, no_open_subframe}
 use Rattle.lines.specs.declared.line.Line.{Line}
@@ -47,7 +47,7 @@ module _ {V : Type 0} (reserve : V → ℕ → ℕ → ℕ) (bytes : List ℕ) w
       turn k w at (Some (Err fault)) (next_offset bytes at) read refl ∙ rw (ends_it at (drop at bytes) fault h.1) refl
 
   -- from a place on
-  from_records : (cs : List Content) (k : ℕ) (w : State × V) (at : ℕ) (rest : List ℕ) (end : Option RecordFault) → length cs < k → All Recordable cs → Bytes rest →
+  from_records : (cs : List Content) (k : ℕ) (w : State × V) (at : ℕ) (rest : List ℕ) (end : Option RecordFault) → length cs < k → AllByRecursion Recordable cs → Bytes rest →
       drop at bytes ≡ flat_map record_bytes cs ++ rest → RunEnd (at + length (flat_map record_bytes cs)) rest end → lines_from reserve k w bytes at ≡ lines_of_records reserve w at cs ++ last_line end
   from_records cs zero w at rest end more ok byte front ends = absurd (omega arith)
   from_records [] (suc k) w at rest end more ok byte front ends =

@@ -1,6 +1,6 @@
 -- Which refusal a call answers: that of the first condition that holds, in the order in which the conditions are listed.
 use Rattle.std.specs.Prelude.{◌≡◌, Bool, true, false, cond, List, [], ◌∷◌, ◌++◌, Some, None, Ok, Err, Option, Result}
-use Rattle.std.specs.List.{AllByRecursion as All}
+use Rattle.std.specs.List.{AllByRecursion}
 use Rattle.refusals.specs.declared.Refusal.{Refusal}
 use Rattle.refusals.specs.declared.Condition.{Condition}
 
@@ -32,7 +32,7 @@ unchanged_or (Some e) made before = before
 
 -- none of the conditions holds
 abbrev pub NoneHolds : List Condition → Type 0
-NoneHolds cs = All (λ c. c.holds ≡ false) cs
+NoneHolds cs = AllByRecursion (λ c. c.holds ≡ false) cs
 
 -- a condition that gives e holds, and none that is listed before it does
 pub record FirstGives (e : Refusal) (cs : List Condition) : Type 0 where

@@ -1,6 +1,6 @@
 -- The powers of the cells of a settled subframe add up to those of the groups.
 use Rattle.std.proofs.Common.{◌≡◌, ℕ, zero, suc, ◌+◌, ◌≤◌, Bool, true, false, not, List, [], ◌∷◌, ◌++◌, map, get_or, Some, None, Option, sym, refl, ap, ◌∙◌, subst, arith}
-use Rattle.std.specs.List.{AllByRecursion as All}
+use Rattle.std.specs.List.{AllByRecursion}
 use Rattle.sharing.specs.declared.groups.Group.{Group}
 use Rattle.sharing.specs.declared.groups.Group.TheVariants.{Master, Secondary}
 use Rattle.sharing.specs.declared.groups.PerGroup.{PerGroup}
@@ -91,7 +91,7 @@ sounding_ok : (x : Option SoundingWant) → OfSounding (class_of_sounding x)
 sounding_ok None = tt
 sounding_ok (Some w) = tt
 
-in_range_at : (ws : List CellWants) → All WantsInRange ws → (k : ℕ) → WantsInRange (get_or ws k no_wants)
+in_range_at : (ws : List CellWants) → AllByRecursion WantsInRange ws → (k : ℕ) → WantsInRange (get_or ws k no_wants)
 in_range_at [] h k = record { of_control = tt; of_data = tt; of_sounding = tt }
 in_range_at (w ∷ ws) h zero = h.0
 in_range_at (w ∷ ws) h (suc k) = in_range_at ws h.1 k
@@ -100,7 +100,7 @@ in_range_at (w ∷ ws) h (suc k) = in_range_at ws h.1 k
 abbrev Small : Powers → Type 0
 Small p = (p.«data» ≤ 1995262314) × (p.sounding ≤ 1995262314)
 
-small_at : (cs : List Cell) (ps : List Powers) → All CellInRange cs → Pairwise WithinMaximum cs ps → (k : ℕ) → Small (get_or ps k no_powers)
+small_at : (cs : List Cell) (ps : List Powers) → AllByRecursion CellInRange cs → Pairwise WithinMaximum cs ps → (k : ℕ) → Small (get_or ps k no_powers)
 small_at [] [] r h k = (omega arith, omega arith)
 small_at [] (p ∷ ps) r h k = absurd h
 small_at (c ∷ cs) [] r h k = absurd h

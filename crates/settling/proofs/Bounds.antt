@@ -1,6 +1,6 @@
 -- No power of a subframe is above that of the highest level, so what a group wants fits 64 bits.
 use Rattle.std.proofs.Common.{◌≡◌, ℕ, zero, suc, ◌+◌, ◌*◌, ◌^◌, ◌<◌, ◌≤◌, Bool, true, false, cond, not, ◌&&◌, eqb, ltb, List, [], ◌∷◌, length, get_or, Some, None, Option, refl, ap, ◌∙◌, arith}
-use Rattle.std.specs.List.{AllByRecursion as All}
+use Rattle.std.specs.List.{AllByRecursion}
 use Rattle.std.proofs.lemmas.Bool.{lt-ltb}
 use Rattle.std.proofs.lemmas.Bool.Decides.{nat_tests}
 use Rattle.levels.proofs.Rule.{most}
@@ -41,7 +41,7 @@ small_at (c ∷ cs) (p ∷ ps) h (suc k) = small_at cs ps h.1 k
 bounded_at : (cs : List Cell) (ws : List CellWants) (ps : List Powers) → Pairwise WithinMaximum cs ps → (k : ℕ) → Bounded (demand_at ws ps k)
 bounded_at cs ws ps h k = let s = small_at cs ps h k in record { control = s.0; of_data = s.1; sounding = s.2 }
 
-pub all_bounded : (X : Group) (cs : List Cell) (ws : List CellWants) (ps : List Powers) → Pairwise WithinMaximum cs ps → All Bounded (group_cells X ws ps)
+pub all_bounded : (X : Group) (cs : List Cell) (ws : List CellWants) (ps : List Powers) → Pairwise WithinMaximum cs ps → AllByRecursion Bounded (group_cells X ws ps)
 all_bounded Master cs ws ps h = (bounded_at cs ws ps h 0, (bounded_at cs ws ps h (0 + 1), (bounded_at cs ws ps h (0 + 2), (bounded_at cs ws ps h (0 + 3), tt))))
 all_bounded Secondary cs ws ps h = (bounded_at cs ws ps h 4, (bounded_at cs ws ps h (4 + 1), (bounded_at cs ws ps h (4 + 2), (bounded_at cs ws ps h (4 + 3), tt))))
 
@@ -49,7 +49,7 @@ pub if_class_most : (c : Class) (o : Option Class) (n : ℕ) → if_class c o n 
 if_class_most c None n = omega arith
 if_class_most c (Some own) n = grind (arith, nat_tests)
 
-pub class_want_most : (c : Class) (ds : List CellDemand) → All Bounded ds → class_want c ds ≤ 29317116627 * length ds
+pub class_want_most : (c : Class) (ds : List CellDemand) → AllByRecursion Bounded ds → class_want c ds ≤ 29317116627 * length ds
 class_want_most c [] h = omega arith
 class_want_most c (d ∷ ds) h =
     let b = h.0 in
@@ -65,7 +65,7 @@ class_want_most c (d ∷ ds) h =
     )
 
 -- the wants of a subframe are never refused
-pub never_refused : (ms ss : List CellDemand) → length ms ≡ 4 → length ss ≡ 4 → All Bounded ms → All Bounded ss → demand_refusal none_made (by_class (class_wants ms ss)) ≡ None
+pub never_refused : (ms ss : List CellDemand) → length ms ≡ 4 → length ss ≡ 4 → AllByRecursion Bounded ms → AllByRecursion Bounded ss → demand_refusal none_made (by_class (class_wants ms ss)) ≡ None
 never_refused ms ss lm ls m s =
     let rs = by_class (class_wants ms ss) in
     let a = class_want_most Acknowledgement ms m in

@@ -1,6 +1,6 @@
 -- A settled subframe, as the code reaches it.
 use Rattle.std.proofs.Common.{◌≡◌, ℕ, List, [], ◌∷◌, length, get_or, Some, None, Ok, Err, Option, Result, sym, refl, ap, ◌∙◌, arith}
-use Rattle.std.specs.List.{AllByRecursion as All}
+use Rattle.std.specs.List.{AllByRecursion}
 use Rattle.refusals.specs.declared.Refusal.{Refusal}
 use Rattle.refusals.specs.First.{refused_or, unchanged_or}
 use Rattle.sharing.specs.declared.groups.Group.TheVariants.{Master, Secondary}
@@ -42,10 +42,10 @@ not_unchanged (Some r) x y z n e = let k : ◌≡◌ {A = ℕ} 0 1 = cc in absur
 -- the ranks of a subframe are never refused
 module _ (cs : List Cell) (ws : List CellWants) (ps : List Powers) (ms ss : List CellDemand) (wts : List PerGroup) (rs : List Rank)
     (within : Pairwise WithinMaximum cs ps) (em : ms ≡ group_cells Master ws ps) (es : ss ≡ group_cells Secondary ws ps) (ew : wts ≡ class_wants ms ss) (er : rs ≡ by_class wts) where
-  pub masters_bounded : All Bounded ms
+  pub masters_bounded : AllByRecursion Bounded ms
   masters_bounded = rw em (all_bounded Master cs ws ps within)
 
-  pub secondaries_bounded : All Bounded ss
+  pub secondaries_bounded : AllByRecursion Bounded ss
   secondaries_bounded = rw es (all_bounded Secondary cs ws ps within)
 
   pub none_refused : demand_refusal none_made rs ≡ None

@@ -1,6 +1,6 @@
 -- The powers of a group's cells add up to the group's.
 use Rattle.std.specs.Prelude.{◌≡◌, ℕ, ◌+◌, ◌≤◌, List, [], ◌∷◌, slice_index_or}
-use Rattle.std.specs.List.{AllByRecursion as All}
+use Rattle.std.specs.List.{AllByRecursion}
 use Rattle.sharing.specs.declared.groups.Group.{Group}
 use Rattle.sharing.specs.declared.groups.Group.TheVariants.{Master, Secondary}
 use Rattle.sharing.specs.declared.groups.Shares.{Shares}
@@ -54,6 +54,6 @@ pub record AloneInRank (ws : List CellWants) : Type 0 where
 -- what a terminal keeps to: a total of at most 33 dBm, cells and wants in range, and wants of classes 1 and 2 alone in their ranks
 pub record Settleable (b : Shares) (cs : List Cell) (ws : List CellWants) : Type 0 where
   pub of_total : b.total ≤ 1995262314
-  pub of_cells : All CellInRange cs
-  pub of_wants : All WantsInRange ws
+  pub of_cells : AllByRecursion CellInRange cs
+  pub of_wants : AllByRecursion WantsInRange ws
   pub alone : AloneInRank ws

@@ -1,6 +1,6 @@
 // What of a cell's powers ranks in each class.
 ghost use Rattle.std.specs.Prelude.{◌≡◌, ◌+◌, ◌*◌, ◌^◌, ◌<◌, ◌≤◌, length};
-ghost use Rattle.std.specs.List.{AllByRecursion as All};
+ghost use Rattle.std.specs.List.{AllByRecursion};
 ghost use Rattle.settling.specs.Classes.{if_class, class_of_control, class_of_data, class_of_sounding, in_class, class_want, Bounded, demand_at, four_from, group_cells, class_pair, class_wants};
 
 use cells::{CellWants, Powers};
@@ -75,7 +75,7 @@ fn wanted_in(class: Class, cell: &CellDemand) -> u64
 
 /// What four cells want in a class together.
 fn wanted_together(class: Class, cells: &[CellDemand; 4]) -> u64
-    requires { All Bounded cells.now }
+    requires { AllByRecursion Bounded cells.now }
     ensures { result ≡ class_want class cells.now }
 {
     let mut sum = 0;
@@ -87,8 +87,8 @@ fn wanted_together(class: Class, cells: &[CellDemand; 4]) -> u64
 
 /// What each group wants in a class.
 fn pair_in(class: Class, master: &[CellDemand; 4], secondary: &[CellDemand; 4]) -> PerGroup
-    requires masters { All Bounded master.now }
-    requires secondaries { All Bounded secondary.now }
+    requires masters { AllByRecursion Bounded master.now }
+    requires secondaries { AllByRecursion Bounded secondary.now }
     ensures { result ≡ class_pair class master.now secondary.now }
 {
     PerGroup {
@@ -99,8 +99,8 @@ fn pair_in(class: Class, master: &[CellDemand; 4], secondary: &[CellDemand; 4]) 
 
 /// What each group wants in classes 1 to 4.
 pub(crate) fn wants_by_class(master: &[CellDemand; 4], secondary: &[CellDemand; 4]) -> [PerGroup; 4]
-    requires masters { All Bounded master.now }
-    requires secondaries { All Bounded secondary.now }
+    requires masters { AllByRecursion Bounded master.now }
+    requires secondaries { AllByRecursion Bounded secondary.now }
     ensures { result ≡ class_wants master.now secondary.now }
 {
     [

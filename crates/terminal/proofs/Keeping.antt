@@ -18,7 +18,7 @@ use Rattle.states.specs.declared.state.Subframe.TheVariants.{Idle, Open, Settled
 use denote.Struct.Props.{≤ℤ_prop, four_prop}
 use Rattle.std.proofs.lemmas.Int.{ints}
 use Rattle.std.proofs.ByRecursion.{All-set}
-use Rattle.std.specs.List.{AllByRecursion as All}
+use Rattle.std.specs.List.{AllByRecursion}
 use Rattle.cells.specs.declared.cell.Cell.{Cell}
 use Rattle.std.proofs.lemmas.Bool.Decides.{nat_tests}
 use Rattle.refusals.specs.First.{when, first_that_holds, NoneHolds}
@@ -36,23 +36,23 @@ use Rattle.terminal.specs.Settled.{moved_cells, settlement, settled_state}
 use Rattle.terminal.specs.Kept.{LoopLimits, WantsKept, SumsWithin, pending}
 
 -- a cell in range in the place of another
-cell_replaced : (ks : List Cell) (i : ℕ) (k : Cell) → CellInRange k → ∥ All CellInRange ks ∥₁ → ∥ All CellInRange (set ks i k) ∥₁
+cell_replaced : (ks : List Cell) (i : ℕ) (k : Cell) → CellInRange k → ∥ AllByRecursion CellInRange ks ∥₁ → ∥ AllByRecursion CellInRange (set ks i k) ∥₁
 cell_replaced ks i k h all = ∥∥₁_elim all ∥∥₁_prop (λ r. ∣ All-set CellInRange ks i k h r ∣₁)
 
-in_limits_at : (ks : List Cell) → All CellInRange ks → LoopLimits ks
+in_limits_at : (ks : List Cell) → AllByRecursion CellInRange ks → LoopLimits ks
 in_limits_at [] r i h = (omega (arith, ints), omega (arith, ints), omega (arith, ints), omega (arith, ints))
 in_limits_at (k ∷ ks) r zero h = (r.0.of_data_loop.low, r.0.of_data_loop.high, r.0.of_control_loop.low, r.0.of_control_loop.high)
 in_limits_at (k ∷ ks) r (suc i) h = in_limits_at ks r.1 i (omega arith)
 
 -- the limits of the loops, outright
-limits : (ks : List Cell) → ∥ All CellInRange ks ∥₁ → LoopLimits ks
+limits : (ks : List Cell) → ∥ AllByRecursion CellInRange ks ∥₁ → LoopLimits ks
 limits ks all i h = ∥∥₁_elim all (four_prop ≤ℤ_prop ≤ℤ_prop ≤ℤ_prop ≤ℤ_prop) (λ r. in_limits_at ks r i h)
 
 -- the cell in a place, changed so that it stays in range
-cell_changed : (ks : List Cell) (i : ℕ) (k : Cell) → (CellInRange (get_or ks i no_cell) → CellInRange k) → ∥ All CellInRange ks ∥₁ → ∥ All CellInRange (set ks i k) ∥₁
+cell_changed : (ks : List Cell) (i : ℕ) (k : Cell) → (CellInRange (get_or ks i no_cell) → CellInRange k) → ∥ AllByRecursion CellInRange ks ∥₁ → ∥ AllByRecursion CellInRange (set ks i k) ∥₁
 cell_changed ks i k stays all = ∥∥₁_elim all ∥∥₁_prop (λ r. ∣ at ks i stays r ∣₁)
   where
-    at : (xs : List Cell) (j : ℕ) → (CellInRange (get_or xs j no_cell) → CellInRange k) → All CellInRange xs → All CellInRange (set xs j k)
+    at : (xs : List Cell) (j : ℕ) → (CellInRange (get_or xs j no_cell) → CellInRange k) → AllByRecursion CellInRange xs → AllByRecursion CellInRange (set xs j k)
     at [] j h r = tt
     at (x ∷ xs) zero h r = (h r.0, r.1)
     at (x ∷ xs) (suc j) h r = (r.0, at xs j h r.1)
@@ -67,7 +67,7 @@ nothing_kept = ∣ record { in_range = none_in_range; alone = record { first_cla
     none : WantsInRange no_wants
     none = record { of_control = tt; of_data = tt; of_sounding = tt }
 
-    none_in_range : All WantsInRange nothing_wanted
+    none_in_range : AllByRecursion WantsInRange nothing_wanted
     none_in_range = (none, (none, (none, (none, (none, (none, (none, (none, tt))))))))
 
 idle_left : (n : ℕ) (f : Subframe) → n + pending f ≤ 864000000 → n + 0 ≤ 864000000
@@ -76,7 +76,7 @@ idle_left n f h = omega arith
 -- all of it together
 pub record Kept (s : State) : Type 0 where
   pub shares : SharesKept s.shares
-  pub cells : ∥ All CellInRange s.cells ∥₁
+  pub cells : ∥ AllByRecursion CellInRange s.cells ∥₁
   pub loops : LoopLimits s.cells
   pub wants : ∥ WantsKept (wants_in s.subframe) ∥₁
   pub sums : SumsWithin s.settled s.sums
@@ -85,7 +85,7 @@ pub record Kept (s : State) : Type 0 where
 unset : CellInRange unset_cell
 unset = record { of_settings = tt; of_loss = (refl, tt); of_data_loop = record { low = omega (arith, ints); high = omega (arith, ints) }; of_control_loop = record { low = omega (arith, ints); high = omega (arith, ints) } }
 
-none_set : All CellInRange fresh.cells
+none_set : AllByRecursion CellInRange fresh.cells
 none_set = (unset, (unset, (unset, (unset, (unset, (unset, (unset, (unset, tt))))))))
 
 pub fresh_kept : (s : State) → s ≡ fresh → Kept s
@@ -143,7 +143,7 @@ settleable s k = ∥∥₁_elim k.cells ∥∥₁_prop (λ cs. ∥∥₁_elim k.
 -- and what it leaves
 pub settled_kept : (rule : ℕ → ℕ → ℕ) (s : State) → Kept s → pending s.subframe ≡ 1 → SumsWithin 1 (settlement rule s).groups → Kept (settled_state rule s)
 settled_kept rule s k one most =
-    let moved : ∥ All CellInRange (moved_cells s) ∥₁ = ∥∥₁_elim (settleable s k) ∥∥₁_prop (λ ok. ∣ ok.of_cells ∣₁) in
+    let moved : ∥ AllByRecursion CellInRange (moved_cells s) ∥₁ = ∥∥₁_elim (settleable s k) ∥∥₁_prop (λ ok. ∣ ok.of_cells ∣₁) in
     let sums = k.sums in
     record {
       shares = k.shares;

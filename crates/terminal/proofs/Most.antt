@@ -3,7 +3,7 @@ use Rattle.std.proofs.Common.{◌≡◌, ℕ, zero, suc, ◌+◌, ◌≤◌, Lis
 use native.Mathlib.Bridge.{le_prop}
 use native.Mathlib.Nat.{ℕ_set}
 use mathlib.Core.Logic.{∥∥₁_elim}
-use Rattle.std.specs.List.{AllByRecursion as All}
+use Rattle.std.specs.List.{AllByRecursion}
 use Rattle.sharing.specs.declared.groups.Group.TheVariants.{Master, Secondary}
 use Rattle.sharing.specs.declared.groups.Shares.{Shares}
 use Rattle.sharing.specs.Sharing.{reserves_by}
@@ -24,7 +24,7 @@ use Rattle.settling.proofs.AddsUp.{cells_add_up}
 use Rattle.terminal.specs.Kept.{SumsWithin}
 
 -- no cell wants more than 33 dBm for control and data, and for sounding
-within_at : (cs : List Cell) (ps : List Powers) → All CellInRange cs → Pairwise WithinMaximum cs ps → (k : ℕ) →
+within_at : (cs : List Cell) (ps : List Powers) → AllByRecursion CellInRange cs → Pairwise WithinMaximum cs ps → (k : ℕ) →
     ((get_or ps k no_powers).control + (get_or ps k no_powers).«data» ≤ 1995262314) × ((get_or ps k no_powers).sounding ≤ 1995262314)
 within_at [] [] r h k = (omega arith, omega arith)
 within_at [] (p ∷ ps) r h k = absurd h

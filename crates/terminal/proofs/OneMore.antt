@@ -3,7 +3,7 @@ use Rattle.std.proofs.Common.{◌≡◌, ℕ, zero, suc, ◌+◌, ◌<◌, ◌�
 use mathlib.Core.Logic.{∥∥₁_elim, ∥∥₁_prop}
 use Rattle.std.proofs.lemmas.Bool.{ltb-false, le-ltb}
 use Rattle.std.proofs.lemmas.Bool.Decides.{nat_tests}
-use Rattle.std.specs.List.{AllByRecursion as All}
+use Rattle.std.specs.List.{AllByRecursion}
 use Rattle.sharing.specs.declared.groups.Group.{Group}
 use Rattle.sharing.specs.declared.groups.Group.TheVariants.{Master, Secondary}
 use Rattle.sharing.specs.declared.ranks.Class.{Class}
@@ -31,7 +31,7 @@ with_in_range (Control w) ws h r = record { of_control = h; of_data = r.of_data;
 with_in_range (Data w) ws h r = record { of_control = r.of_control; of_data = h; of_sounding = r.of_sounding }
 with_in_range (Sounding w) ws h r = record { of_control = r.of_control; of_data = r.of_data; of_sounding = h }
 
-put_in_range : (w : Want) → WantInRange w → (ws : List CellWants) (k : ℕ) → All WantsInRange ws → All WantsInRange (put_want ws k w)
+put_in_range : (w : Want) → WantInRange w → (ws : List CellWants) (k : ℕ) → AllByRecursion WantsInRange ws → AllByRecursion WantsInRange (put_want ws k w)
 put_in_range w h [] k r = tt
 put_in_range w h (x ∷ ws) zero r = (with_in_range w x h r.0, r.1)
 put_in_range w h (x ∷ ws) (suc k) r = (r.0, put_in_range w h ws k r.1)

@@ -1,6 +1,6 @@
 -- What every terminal keeps to.
 use Rattle.std.specs.Prelude.{ℕ, ◌*◌, ◌<◌, ◌≤◌, List, pos, negsuc, ◌≤ℤ◌, slice_index_or}
-use Rattle.std.specs.List.{AllByRecursion as All}
+use Rattle.std.specs.List.{AllByRecursion}
 use Rattle.cells.specs.declared.cell.Cell.{Cell}
 use Rattle.cells.specs.declared.wants.CellWants.{CellWants}
 use Rattle.cells.specs.WantRanges.{WantsInRange}
@@ -19,7 +19,7 @@ LoopLimits ks = (k : ℕ) → k < 8 →
 
 -- wants that no call refuses
 pub record WantsKept (ws : List CellWants) : Type 0 where
-  pub in_range : All WantsInRange ws
+  pub in_range : AllByRecursion WantsInRange ws
   pub alone : AloneInRank ws
 
 -- sums over n subframes, in each of which a group wants at most 18,000,000,000 nW

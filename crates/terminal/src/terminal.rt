@@ -1,6 +1,6 @@
 // A terminal: its state and its holding rule.
 ghost use Rattle.std.specs.Prelude.{◌+◌, ◌≤◌};
-ghost use Rattle.std.specs.List.{AllByRecursion as All};
+ghost use Rattle.std.specs.List.{AllByRecursion};
 ghost use Rattle.cells.specs.Cells.{CellInRange};
 ghost use Rattle.states.specs.Totals.{SharesKept};
 ghost use Rattle.states.specs.States.{wants_in};
@@ -15,7 +15,7 @@ pub struct Terminal<R> {
     pub(crate) state: State,
     pub(crate) rule: R,
     ghost shares_kept: { SharesKept state.shares },
-    ghost cells_in_range: { ∥ All CellInRange state.cells ∥₁ },
+    ghost cells_in_range: { ∥ AllByRecursion CellInRange state.cells ∥₁ },
     ghost loop_limits: { LoopLimits state.cells },
     ghost wants_kept: { ∥ WantsKept (wants_in state.subframe) ∥₁ },
     ghost sums_within: { SumsWithin state.settled state.sums },

@@ -1,5 +1,5 @@
-use Rattle.std.proofs.Common.{◌≡◌, ◌<◌, List, length, sym, refl, ◌∙◌, subst, arith, length-set}
-use Rattle.std.specs.List.{AllByRecursion as All}
+use Rattle.std.proofs.Common.{◌≡◌, ◌<◌, List, length, sym, ◌∙◌, subst, arith, length-set}
+use Rattle.std.specs.List.{AllByRecursion}
 use Rattle.cells.specs.declared.cell.Cell.{Cell}
 use Rattle.cells.specs.Cells.{CellInRange}
 use Rattle.cells.specs.Every.{all_moved}
@@ -23,5 +23,5 @@ returns c =
     in
     record {
       leaves = is;
-      loop_limits = λ hk hw. subst (λ (ks : List Cell). All CellInRange ks) (sym is) (all_in_range c.args.cells.now c.args.wants.now c.args.subframe hk hw);
+      loop_limits = λ hk hw. subst (λ (ks : List Cell). AllByRecursion CellInRange ks) (sym is) (all_in_range c.args.cells.now c.args.wants.now c.args.subframe hk hw);
     }

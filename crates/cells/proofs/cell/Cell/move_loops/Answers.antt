@@ -1,7 +1,6 @@
 use Rattle.std.proofs.Common.{◌≡◌, sym, subst, rules}
 use Rattle.cells.specs.declared.cell.Cell.{Cell}
 use Rattle.cells.specs.Cells.{CellInRange}
-use Rattle.cells.specs.Loops.{moved}
 use Rattle.cells.proofs.Limits.{moved_in_range}
 use Rattle.cells.proofs.Steps.{moves_by_commands, moved_at}
 use Rattle.cells.proofs.cell.Cell.move_loops.Goals as goal

@@ -2,7 +2,6 @@ use Rattle.std.proofs.Common.{◌≡◌, pos, None, Ok, sym, ap, ◌∙◌, subs
 use Rattle.std.proofs.lemmas.Int.{ints}
 use Rattle.refusals.specs.First.{first_that_holds, refused_or, NoneHolds}
 use Rattle.levels.specs.Levels.{level_of}
-use Rattle.cells.specs.declared.settings.Settings.{Settings}
 use Rattle.cells.specs.declared.settings.RawSettings.{RawSettings}
 use Rattle.cells.specs.Ranges.{settings_conditions, settings_of, raw_settings_of}
 use Rattle.cells.proofs.Bounds.{none_holds, settings_bounds}

@@ -1,10 +1,9 @@
 -- One group: what its four cells want and are granted adds up to its classes.
-use Rattle.std.proofs.Common.{◌≡◌, ℕ, zero, suc, ◌+◌, ◌*◌, ◌<◌, ◌≤◌, Bool, true, false, cond, leb, ◌⊎◌, List, [], ◌∷◌, map, length, get_or, Some, None, Option, sym, refl, ap, ◌∙◌, inl, inr, ⊎_elim, add-mul, arith}
-use Rattle.std.proofs.lemmas.Bool.{cases_lt, cond-true, le-leb, and_from}
-use Rattle.std.proofs.lemmas.List.{length-map}
+use Rattle.std.proofs.Common.{◌≡◌, ℕ, ◌+◌, ◌*◌, ◌<◌, ◌≤◌, true, List, [], ◌∷◌, map, length, get_or, Some, None, Option, refl, ap, ◌∙◌, ⊎_elim, add-mul, arith}
+use Rattle.std.proofs.lemmas.Bool.{cases_lt, cond-true, le-leb}
 use Rattle.sharing.specs.declared.ranks.Class.{Class}
 use Rattle.sharing.specs.declared.ranks.Class.TheVariants.{Acknowledgement, ControlInformation, DataOnly, Sounding}
-use Rattle.split.specs.Shares.{sum_of, split_of, all_within}
+use Rattle.split.specs.Shares.{sum_of, split_of}
 use Rattle.split.specs.Answer.{allowed}
 use Rattle.split.proofs.Exact.{spent, capped, split_whole, split_length}
 use Rattle.settling.specs.declared.classes.CellDemand.{CellDemand}

@@ -1,5 +1,5 @@
 -- The powers of the cells of a settled subframe add up to those of the groups.
-use Rattle.std.proofs.Common.{◌≡◌, ℕ, zero, suc, ◌+◌, ◌≤◌, Bool, true, false, not, List, [], ◌∷◌, ◌++◌, map, get_or, Some, None, Option, sym, refl, ap, ◌∙◌, subst, arith}
+use Rattle.std.proofs.Common.{◌≡◌, ℕ, zero, suc, ◌+◌, ◌≤◌, false, not, List, [], ◌∷◌, map, get_or, Some, None, Option, refl, ap, ◌∙◌, arith}
 use Rattle.std.specs.List.{AllByRecursion}
 use Rattle.sharing.specs.declared.groups.Group.{Group}
 use Rattle.sharing.specs.declared.groups.Group.TheVariants.{Master, Secondary}
@@ -9,7 +9,7 @@ use Rattle.sharing.specs.declared.ranks.Class.{Class}
 use Rattle.sharing.specs.declared.ranks.Class.TheVariants.{Acknowledgement, ControlInformation, DataOnly, Sounding}
 use Rattle.sharing.specs.declared.ranks.Rank.{Rank}
 use Rattle.sharing.specs.Groups.{if_group}
-use Rattle.sharing.specs.Ranks.{class_number, rank_of, by_class, granted_to}
+use Rattle.sharing.specs.Ranks.{class_number, rank_of, granted_to}
 use Rattle.sharing.specs.Sharing.{served, reserves_by}
 use Rattle.sharing.proofs.Along.{then}
 use Rattle.cells.specs.declared.cell.Cell.{Cell}
@@ -22,15 +22,15 @@ use Rattle.cells.specs.declared.wants.CellWants.{CellWants}
 use Rattle.cells.specs.declared.wants.Want.TheVariants.{Control as ControlCase, Data as DataCase}
 use Rattle.cells.specs.Cells.{CellInRange}
 use Rattle.cells.specs.Every.{all_wanted, Pairwise}
-use Rattle.cells.specs.Powers.{wanted_with, wanted_powers}
+use Rattle.cells.specs.Powers.{wanted_with}
 use Rattle.cells.specs.Promises.{WithinMaximum}
 use Rattle.cells.specs.WantRanges.{is_class, WantInRange, IfSome, WantsInRange}
 use Rattle.settling.specs.declared.classes.CellDemand.{CellDemand}
 use Rattle.settling.specs.declared.grants.ClassGrants.{ClassGrants}
-use Rattle.settling.specs.Classes.{class_of_control, class_of_data, class_of_sounding, class_want, class_wants, no_wants, no_powers, demand_at, group_cells}
+use Rattle.settling.specs.Classes.{class_of_control, class_of_data, class_of_sounding, no_wants, no_powers, demand_at}
 use Rattle.settling.specs.Grants.{granted_at, grants_in}
-use Rattle.settling.specs.Outcomes.{none_made, asked_of, ranks_of, served_ranks, outcome_of}
-use Rattle.settling.specs.AddUp.{CellsAddUp, AloneInRank, Settleable}
+use Rattle.settling.specs.Outcomes.{none_made, ranks_of, served_ranks, outcome_of}
+use Rattle.settling.specs.AddUp.{CellsAddUp, Settleable}
 use Rattle.settling.proofs.Adding.{OfControl, OfData, OfSounding, Fine, wanted_adds_up, granted_adds_up}
 
 -- where there is no want there is no power

@@ -1,15 +1,14 @@
 -- No power of a subframe is above that of the highest level, so what a group wants fits 64 bits.
-use Rattle.std.proofs.Common.{◌≡◌, ℕ, zero, suc, ◌+◌, ◌*◌, ◌^◌, ◌<◌, ◌≤◌, Bool, true, false, cond, not, ◌&&◌, eqb, ltb, List, [], ◌∷◌, length, get_or, Some, None, Option, refl, ap, ◌∙◌, arith}
+use Rattle.std.proofs.Common.{◌≡◌, ℕ, zero, suc, ◌+◌, ◌*◌, ◌^◌, ◌≤◌, true, ltb, List, [], ◌∷◌, length, get_or, Some, None, Option, refl, arith}
 use Rattle.std.specs.List.{AllByRecursion}
 use Rattle.std.proofs.lemmas.Bool.{lt-ltb}
 use Rattle.std.proofs.lemmas.Bool.Decides.{nat_tests}
 use Rattle.levels.proofs.Rule.{most}
-use Rattle.refusals.specs.declared.Refusal.{Refusal}
 use Rattle.sharing.specs.declared.groups.Group.{Group}
 use Rattle.sharing.specs.declared.groups.Group.TheVariants.{Master, Secondary}
 use Rattle.sharing.specs.declared.ranks.Class.{Class}
 use Rattle.sharing.specs.declared.ranks.Class.TheVariants.{Acknowledgement, ControlInformation, DataOnly, Sounding}
-use Rattle.sharing.specs.Ranks.{class_number, by_class, whole_want}
+use Rattle.sharing.specs.Ranks.{by_class, whole_want}
 use Rattle.sharing.specs.Sharing.{demand_refusal}
 use Rattle.cells.specs.declared.cell.Cell.{Cell}
 use Rattle.cells.specs.declared.settings.Settings.{Settings}

@@ -1,6 +1,5 @@
 -- What of a cell's powers ranks in each class.
 use Rattle.std.specs.Prelude.{ℕ, ◌+◌, ◌≤◌, cond, List, [], ◌∷◌, Some, None, Option, ◌==◌, slice_index_or}
-use Rattle.std.specs.List.{AllByRecursion}
 use Rattle.sharing.specs.declared.groups.Group.{Group}
 use Rattle.sharing.specs.declared.groups.Group.TheVariants.{Master, Secondary}
 use Rattle.sharing.specs.declared.groups.PerGroup.{PerGroup}

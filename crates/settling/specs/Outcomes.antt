@@ -1,5 +1,5 @@
 -- A settled subframe: its ranks, what is shared over them, and what each cell and each group wanted and was granted.
-use Rattle.std.specs.Prelude.{ℕ, ◌+◌, List, ◌++◌}
+use Rattle.std.specs.Prelude.{ℕ, List, ◌++◌}
 use Rattle.sharing.specs.declared.groups.Group.{Group}
 use Rattle.sharing.specs.declared.groups.Group.TheVariants.{Master, Secondary}
 use Rattle.sharing.specs.declared.groups.PerGroup.{PerGroup}
@@ -10,11 +10,8 @@ use Rattle.sharing.specs.Sharing.{wants_of}
 use Rattle.sharing.specs.Shared.{shared_by}
 use Rattle.cells.specs.declared.cell.Cell.{Cell}
 use Rattle.cells.specs.declared.wants.CellWants.{CellWants}
-use Rattle.cells.specs.declared.powers.Powers.{Powers}
 use Rattle.cells.specs.Every.{all_wanted}
 use Rattle.settling.specs.declared.classes.CellDemand.{CellDemand}
-use Rattle.settling.specs.declared.outcome.Power.{Power}
-use Rattle.settling.specs.declared.outcome.CellPowers.{CellPowers}
 use Rattle.settling.specs.declared.outcome.GroupPowers.{GroupPowers}
 use Rattle.settling.specs.declared.outcome.Outcome.{Outcome}
 use Rattle.settling.specs.Classes.{group_cells, class_wants}

@@ -1,6 +1,5 @@
 use Rattle.std.proofs.Common.{◌≡◌, ◌+◌, ◌*◌, ◌≤◌, drop}
-use Rattle.std.specs.List.{AllByRecursion}
-use Rattle.settling.specs.Classes.{class_want, Bounded}
+use Rattle.settling.specs.Classes.{class_want}
 use Rattle.settling.proofs.classes.wanted_together.Given as goal
 
 abbrev pub invariant-loop-cell : goal.invariant-loop-cell

@@ -1,5 +1,5 @@
 -- What a terminal keeps.
-use Rattle.std.specs.Prelude.{ℕ, ◌+◌, Bool, true, false, not, ◌&&◌, List, [], ◌∷◌, set, replicate, pos, is_some, None, ◌==◌, slice_index_or, slice_set}
+use Rattle.std.specs.Prelude.{ℕ, ◌+◌, Bool, true, false, not, ◌&&◌, List, [], replicate, pos, is_some, None, ◌==◌, slice_index_or, slice_set}
 use Rattle.levels.specs.Levels.{level_of, power}
 use Rattle.sharing.specs.declared.groups.Shares.{Shares}
 use Rattle.sharing.specs.Guarantees.{shares_of}

@@ -1,5 +1,5 @@
 -- The total, and the percentages of it that the groups are guaranteed.
-use Rattle.std.specs.Prelude.{ℕ, ◌+◌, ◌≤◌, List, [], ◌∷◌, ℤ, pos, negsuc, ◌≤ℤ◌, nat_lt}
+use Rattle.std.specs.Prelude.{◌+◌, ◌≤◌, List, [], ◌∷◌, pos, negsuc, ◌≤ℤ◌, nat_lt}
 use Rattle.levels.specs.Levels.{level_of}
 use Rattle.refusals.specs.declared.Refusal.TheVariants.{OutOfRange, PercentagesAbove100}
 use Rattle.refusals.specs.declared.Condition.{Condition}

@@ -1,7 +1,7 @@
-use Rattle.std.proofs.Common.{◌≡◌, false, ltb, sym, ap, ◌∙◌, rules}
+use Rattle.std.proofs.Common.{◌≡◌, false, ltb, ◌∙◌, rules}
 use Rattle.std.proofs.lemmas.Result.{err_from_is_err_and, IfOk-from_err}
-use Rattle.refusals.specs.First.{first_that_holds, refused_or}
-use Rattle.cells.specs.Ranges.{settings_conditions, settings_of}
+use Rattle.refusals.specs.First.{first_that_holds}
+use Rattle.cells.specs.Ranges.{settings_conditions}
 use Rattle.states.specs.States.{is_busy}
 use Rattle.states.proofs.Chains.{refused_same}
 use Rattle.states.proofs.state.State.admit_set.Goals as goal

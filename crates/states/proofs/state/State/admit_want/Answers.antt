@@ -1,6 +1,6 @@
-use Rattle.std.proofs.Common.{◌≡◌, false, not, ltb, sym, ap, ◌∙◌, rules}
+use Rattle.std.proofs.Common.{◌≡◌, false, not, ltb, ◌∙◌, rules}
 use Rattle.std.proofs.lemmas.Result.{err_from_is_err_and, IfOk-from_err}
-use Rattle.refusals.specs.First.{first_that_holds, refused_or}
+use Rattle.refusals.specs.First.{first_that_holds}
 use Rattle.cells.specs.WantRanges.{want_conditions, want_of}
 use Rattle.states.specs.States.{open_as}
 use Rattle.states.specs.Admission.{refuses_want_of}

@@ -1,7 +1,6 @@
 -- What every terminal keeps to is kept by each change.
-use Rattle.std.proofs.Common.{◌≡◌, ℕ, zero, suc, ◌+◌, ◌<◌, ◌≤◌, Bool, true, false, not, ◌&&◌, ◌||◌, eqb, ltb, leb, List, [], ◌∷◌, ◌++◌, get_or, set, pos, negsuc, None, sym, refl, ap, ◌∙◌, subst, arith}
+use Rattle.std.proofs.Common.{◌≡◌, ℕ, zero, suc, ◌+◌, ◌<◌, ◌≤◌, Bool, true, false, not, ◌&&◌, eqb, ltb, leb, List, [], ◌∷◌, ◌++◌, get_or, set, pos, None, sym, refl, subst, arith}
 use mathlib.Core.Logic.{∥∥₁_elim, ∥∥₁_prop}
-use native.Mathlib.Bridge.{le_prop}
 use Rattle.std.proofs.lemmas.Bool.{le-ltb, leb-false}
 use Rattle.levels.specs.Levels.{W, scaled, mantissas, power}
 use Rattle.levels.proofs.Rule.{monotone}
@@ -15,7 +14,7 @@ use Rattle.settling.specs.AddUp.{Settleable}
 use Rattle.sharing.specs.Guarantees.{shares_refusal}
 use Rattle.states.specs.declared.shares.PowerShares.{PowerShares}
 use Rattle.states.specs.declared.state.Subframe.TheVariants.{Idle, Open, Settled}
-use denote.Struct.Props.{≤ℤ_prop, four_prop}
+use Rattle.std.proofs.Props.{props}
 use Rattle.std.proofs.lemmas.Int.{ints}
 use Rattle.std.proofs.ByRecursion.{All-set}
 use Rattle.std.specs.List.{AllByRecursion}
@@ -46,7 +45,7 @@ in_limits_at (k ∷ ks) r (suc i) h = in_limits_at ks r.1 i (omega arith)
 
 -- the limits of the loops, outright
 limits : (ks : List Cell) → ∥ AllByRecursion CellInRange ks ∥₁ → LoopLimits ks
-limits ks all i h = ∥∥₁_elim all (four_prop ≤ℤ_prop ≤ℤ_prop ≤ℤ_prop ≤ℤ_prop) (λ r. in_limits_at ks r i h)
+limits ks all i h = ∥∥₁_elim all (hlevel props) (λ r. in_limits_at ks r i h)
 
 -- the cell in a place, changed so that it stays in range
 cell_changed : (ks : List Cell) (i : ℕ) (k : Cell) → (CellInRange (get_or ks i no_cell) → CellInRange k) → ∥ AllByRecursion CellInRange ks ∥₁ → ∥ AllByRecursion CellInRange (set ks i k) ∥₁

@@ -1,5 +1,5 @@
 -- The wants of a subframe with one more.
-use Rattle.std.proofs.Common.{◌≡◌, ℕ, zero, suc, ◌+◌, ◌<◌, ◌≤◌, Bool, true, false, cond, ◌&&◌, ◌||◌, eqb, ltb, ◌⊎◌, List, [], ◌∷◌, get_or, set, is_some, Some, None, Option, sym, refl, ap, ◌∙◌, subst, inl, inr, ⊎_elim, arith}
+use Rattle.std.proofs.Common.{◌≡◌, ℕ, zero, suc, ◌+◌, ◌≤◌, Bool, true, false, cond, ◌&&◌, eqb, ltb, ◌⊎◌, List, [], ◌∷◌, get_or, sym, refl, ap, subst, inl, inr, ⊎_elim, arith}
 use mathlib.Core.Logic.{∥∥₁_elim, ∥∥₁_prop}
 use Rattle.std.proofs.lemmas.Bool.{ltb-false, le-ltb}
 use Rattle.std.proofs.lemmas.Bool.Decides.{nat_tests}
@@ -9,15 +9,13 @@ use Rattle.sharing.specs.declared.groups.Group.TheVariants.{Master, Secondary}
 use Rattle.sharing.specs.declared.ranks.Class.{Class}
 use Rattle.sharing.specs.declared.ranks.Class.TheVariants.{Acknowledgement, ControlInformation, DataOnly, Sounding as SoundingClass}
 use Rattle.sharing.specs.Ranks.{class_number}
-use Rattle.cells.specs.declared.wants.ControlWant.{ControlWant}
-use Rattle.cells.specs.declared.wants.DataWant.{DataWant}
 use Rattle.cells.specs.declared.wants.CellWants.{CellWants}
 use Rattle.cells.specs.declared.wants.Want.{Want}
 use Rattle.cells.specs.declared.wants.Want.TheVariants.{Control, Data, Sounding}
 use Rattle.cells.specs.Kinds.{class_of_want}
 use Rattle.cells.specs.WantRanges.{WantInRange, WantsInRange}
-use Rattle.settling.specs.Classes.{no_wants, if_class, class_of_control, class_of_data}
-use Rattle.settling.specs.AddUp.{claims_in, over_four, over_group, AloneInRank}
+use Rattle.settling.specs.Classes.{no_wants}
+use Rattle.settling.specs.AddUp.{claims_in, over_group}
 use Rattle.states.specs.Wanted.{group_of, has_kind, with_want, is_single, given_already, put_want}
 use Rattle.states.specs.declared.state.State.{State}
 use Rattle.states.specs.declared.state.Subframe.TheVariants.{Open}

@@ -1,8 +1,8 @@
 -- Any call, as the code reaches it.
-use Rattle.std.proofs.Common.{◌≡◌, ℕ, List, Some, None, Option, Result, sym, refl, ap, ◌∙◌, subst, arith}
+use Rattle.std.proofs.Common.{◌≡◌, ℕ, List, Some, None, Option, Result, sym, refl, ap, ◌∙◌, subst}
 use Rattle.refusals.specs.declared.Refusal.{Refusal}
 use Rattle.refusals.specs.declared.Condition.{Condition}
-use Rattle.refusals.specs.First.{first_that_holds, refused_or, unchanged_or, FirstThatHolds}
+use Rattle.refusals.specs.First.{first_that_holds, refused_or, unchanged_or}
 use Rattle.refusals.proofs.Firsts.{answers}
 use Rattle.states.specs.declared.state.State.{State}
 use Rattle.terminal.specs.declared.call.Call.{Call}
@@ -10,7 +10,7 @@ use Rattle.terminal.specs.declared.call.Call.TheVariants as call
 use Rattle.terminal.specs.declared.call.Answer.{Answer}
 use Rattle.terminal.specs.declared.call.Answer.TheVariants as says
 use Rattle.terminal.specs.Pinned.{RefusedOrDone}
-use Rattle.terminal.specs.Calls.{conditions, refusal, result, accepted_state, accepted_rule, refused_or_says, told_of, answer_to, state_after, rule_after, refused_by, Performs}
+use Rattle.terminal.specs.Calls.{conditions, refusal, result, refused_or_says, told_of, answer_to, state_after, rule_after, refused_by, Performs}
 
 -- a call that gives nothing and leaves the rule, by what it keeps to
 told_is : (o : Option Refusal) → told_of (refused_or o tt) ≡ refused_or_says o says.Accepted

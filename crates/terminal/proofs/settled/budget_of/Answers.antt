@@ -1,5 +1,4 @@
-use Rattle.std.proofs.Common.{◌≡◌, sym, refl, ◌∙◌}
-use Rattle.refusals.specs.First.{refused_or}
+use Rattle.std.proofs.Common.{sym, refl, ◌∙◌}
 use Rattle.states.proofs.Chains.{accepts}
 use Rattle.terminal.proofs.Answering.{not_refused}
 use Rattle.terminal.proofs.Keeping.{shares_not_refused}

@@ -1,4 +1,4 @@
-use Rattle.std.proofs.Common.{◌≡◌, length, sym, ◌∙◌, arith}
+use Rattle.std.proofs.Common.{◌≡◌, length, arith}
 use Rattle.terminal.proofs.Settling.{settled_within, within_powers, settled_is, settled_adds_up}
 use Rattle.terminal.proofs.settled.settled.Goals as goal
 

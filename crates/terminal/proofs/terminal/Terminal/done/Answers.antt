@@ -1,4 +1,4 @@
-use Rattle.std.proofs.Common.{◌≡◌, Err, sym, refl, ap, ◌∙◌}
+use Rattle.std.proofs.Common.{Err, refl, ap, ◌∙◌}
 use Rattle.std.proofs.lemmas.Result.{err_from_is_err_and}
 use Rattle.refusals.specs.First.{first_that_holds}
 use Rattle.states.specs.Admission.{refuses_settled_ticket}
@@ -17,7 +17,7 @@ invariant_of-self g c =
     let t = c.args.self.now in
     let k : Kept c.args.self.now.state = record { shares = t.shares_kept; cells = t.cells_in_range; loops = t.loop_limits; wants = t.wants_kept; sums = t.sums_within; left = t.subframes_left } in
     let n = ended_kept _ _ k c.end_subframe.ensures in
-    (n.shares, (n.cells, (n.loops, (n.wants, (n.sums, (n.left, tt))))))
+    record { shares_kept = n.shares; cells_in_range = n.cells; loop_limits = n.loops; wants_kept = n.wants; sums_within = n.sums; subframes_left = n.left }
 
 pub returns : goal.returns
 returns g c =

@@ -1,4 +1,4 @@
-use Rattle.std.proofs.Common.{◌≡◌, Err, sym, refl, ap, ◌∙◌}
+use Rattle.std.proofs.Common.{Err, refl, ap, ◌∙◌}
 use Rattle.std.proofs.lemmas.Result.{err_from_is_err_and}
 use Rattle.refusals.specs.First.{first_that_holds}
 use Rattle.states.specs.Admission.{refuses_set}
@@ -19,7 +19,7 @@ invariant_of-self g c =
     let k : Kept c.args.self.now.state = record { shares = t.shares_kept; cells = t.cells_in_range; loops = t.loop_limits; wants = t.wants_kept; sums = t.sums_within; left = t.subframes_left } in
     let i = c.in_ok-place in
     let n = cell_kept _ _ i.place _ k (c.set.ensures.in_range i.ensures.in_range.1) c.put_cell.ensures in
-    (n.shares, (n.cells, (n.loops, (n.wants, (n.sums, (n.left, tt))))))
+    record { shares_kept = n.shares; cells_in_range = n.cells; loop_limits = n.loops; wants_kept = n.wants; sums_within = n.sums; subframes_left = n.left }
 
 pub returns : goal.returns
 returns g c =

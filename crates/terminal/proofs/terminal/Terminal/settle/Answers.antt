@@ -1,4 +1,4 @@
-use Rattle.std.proofs.Common.{◌≡◌, sym, refl, ap, ◌∙◌, subst, arith}
+use Rattle.std.proofs.Common.{refl, arith}
 use Rattle.refusals.specs.First.{first_that_holds}
 use Rattle.states.specs.Admission.{refuses_open_ticket}
 use Rattle.states.proofs.Chains.{admitted}
@@ -33,7 +33,7 @@ invariant_of-self g c =
     let k : Kept c.args.self.now.state = record { shares = t.shares_kept; cells = t.cells_in_range; loops = t.loop_limits; wants = t.wants_kept; sums = t.sums_within; left = t.subframes_left } in
     let one = open_for_settle t.state c.args.ticket.subframe (admitted _ _ _ c.in_default.ensures).0 in
     let n = left_by (g.R.HoldingRule.reserve t.rule) t.state c.settle_open.new.state k one c.settle_open.ensures.most c.settle_open.ensures.leaves in
-    (n.shares, (n.cells, (n.loops, (n.wants, (n.sums, (n.left, tt))))))
+    record { shares_kept = n.shares; cells_in_range = n.cells; loop_limits = n.loops; wants_kept = n.wants; sums_within = n.sums; subframes_left = n.left }
 
 pub returns : goal.returns
 returns g c =

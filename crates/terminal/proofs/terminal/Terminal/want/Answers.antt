@@ -1,4 +1,4 @@
-use Rattle.std.proofs.Common.{◌≡◌, Err, sym, refl, ap, ◌∙◌}
+use Rattle.std.proofs.Common.{Err, refl, ap, ◌∙◌}
 use Rattle.std.proofs.lemmas.Result.{err_from_is_err_and}
 use Rattle.refusals.specs.First.{first_that_holds}
 use Rattle.states.specs.Admission.{refuses_want}
@@ -21,7 +21,7 @@ invariant_of-self g c =
     let a = admitted (first_that_holds (refuses_want t.state c.args.ticket.now.subframe c.args.cell c.args.want)) _ _ i.ensures.answers in
     let one = open_for_want t.state c.args.ticket.now.subframe c.args.cell c.args.want a.0 in
     let n = want_put_kept _ _ i.place i.want k one i.ensures.new i.ensures.in_range.1 c.add_want.ensures in
-    (n.shares, (n.cells, (n.loops, (n.wants, (n.sums, (n.left, tt))))))
+    record { shares_kept = n.shares; cells_in_range = n.cells; loop_limits = n.loops; wants_kept = n.wants; sums_within = n.sums; subframes_left = n.left }
 
 pub returns : goal.returns
 returns g c =

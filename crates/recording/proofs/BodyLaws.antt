@@ -1,7 +1,7 @@
 -- Each answer on a body, with its condition on the body's bytes.
-use Rattle.std.proofs.Common.{◌≡◌, ℕ, zero, suc, ◌^◌, ◌<◌, ◌≤◌, Bool, true, false, ◌&&◌, leb, ◌⊎◌, List, [], ◌∷◌, ◌++◌, length, get_or, Some, None, Ok, Err, Option, Result, sym, refl, ap, ◌∙◌, subst, inl, inr, ⊎_elim, append_assoc, append-nil, arith}
+use Rattle.std.proofs.Common.{◌≡◌, ℕ, zero, suc, ◌<◌, Bool, true, false, ◌&&◌, leb, ◌⊎◌, List, [], ◌∷◌, ◌++◌, length, Some, None, Ok, Err, Option, Result, sym, refl, ap, ◌∙◌, subst, inl, inr, ⊎_elim, append_assoc, append-nil, arith}
 use Rattle.std.specs.List.{flat_map, AllByRecursion as All}
-use Rattle.std.proofs.lemmas.Bool.{leb-true, le-leb, lt-leb, cases_lt, cases_Bool, cond-true, cond-false}
+use Rattle.std.proofs.lemmas.Bool.{lt-leb, cases_lt, cond-true, cond-false}
 use Rattle.std.proofs.lemmas.Bool.Decides.{nat_tests}
 use Rattle.faults.specs.declared.NumberFault.{NumberFault}
 use Rattle.faults.specs.declared.RecordFault.{RecordFault}
@@ -12,7 +12,7 @@ use Rattle.faults.specs.Faults.{truncated, malformed, bad_body}
 use Rattle.recording.specs.Numbers.{NumberRead, got, fails, number_at, shortest, BeginsWith, CutNumber, IllFormedNumber}
 use Rattle.recording.specs.Kinds.{letter_of, numbers_of, kind_with}
 use Rattle.recording.specs.Contents.{Content, numbered, noted, Below32, Printable, InForm, body_bytes}
-use Rattle.recording.specs.Conditions.{CutAt, NumberDue, LeftOver, UnknownLetter, NotText, Unfit}
+use Rattle.recording.specs.Conditions.{NumberDue, LeftOver, UnknownLetter, NotText, Unfit}
 use Rattle.recording.specs.Records.{put_first, numbers_at, is_printable, text_at, with_numbers, after_letter, of_kind, body_at}
 use Rattle.recording.proofs.NumberLaws.{Bytes, NumberView, begins, cut, none, number_view, reads_back}
 use Rattle.recording.proofs.KindLaws.{by_letter, letter_is, no_kind, only_note}

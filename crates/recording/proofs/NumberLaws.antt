@@ -5,8 +5,7 @@ use Rattle.std.proofs.lemmas.Nat.{div-mul-add, mod-mul-add, div_below, div-add-m
 use Rattle.std.proofs.lemmas.Bool.{lt-ltb, le-ltb, cases_lt, cases_eq, cond-true, cond-false}
 use Rattle.faults.specs.declared.NumberFault.{NumberFault}
 use Rattle.faults.specs.Faults.{number_fault_number, truncated_number, malformed_number}
-use Rattle.recording.specs.Exactly.{Exactly}
-use Rattle.recording.specs.Numbers.{NumberRead, got, fails, join, groups, number_at, shortest_in, shortest, BeginsWith, CutNumber, IllFormedNumber, ReadExactly, ReadsBack}
+use Rattle.recording.specs.Numbers.{NumberRead, got, fails, join, groups, number_at, shortest_in, BeginsWith, CutNumber, IllFormedNumber, ReadExactly, ReadsBack}
 use Rattle.recording.proofs.Groups.{none_above, over, joins}
 
 -- a list of bytes

@@ -1,17 +1,15 @@
 -- What is read of a body, number by number.
-use Rattle.std.proofs.Common.{◌≡◌, ℕ, zero, suc, ◌+◌, ◌-◌, ◌<◌, ◌≤◌, Bool, true, false, cond, ◌&&◌, leb, List, [], ◌∷◌, ◌++◌, length, get_or, take, drop, set, Some, None, Ok, Err, Option, Result, sym, refl, ap, ◌∙◌, append_assoc, append-nil, arith}
+use Rattle.std.proofs.Common.{◌≡◌, ℕ, zero, suc, ◌+◌, ◌-◌, ◌<◌, ◌≤◌, Bool, true, false, ◌&&◌, leb, List, [], ◌∷◌, ◌++◌, length, get_or, take, drop, set, Some, Ok, Err, Result, sym, refl, ap, ◌∙◌, append_assoc, append-nil, arith}
 use Rattle.std.specs.List.{between}
 use Rattle.std.proofs.lemmas.List.{at_drop_more, take_more_set, take_all}
-use Rattle.std.proofs.lemmas.Bool.Decides.{nat_tests}
 use Rattle.faults.specs.declared.NumberFault.{NumberFault}
 use Rattle.faults.specs.declared.RecordFault.{RecordFault}
 use Rattle.faults.specs.declared.RecordFault.TheVariants.{Number}
 use Rattle.recording.specs.declared.kinds.RecordKind.{RecordKind}
 use Rattle.faults.specs.Faults.{bad_body}
-use Rattle.recording.specs.Numbers.{NumberRead, got, fails, number_at}
+use Rattle.recording.specs.Numbers.{got, fails, number_at}
 use Rattle.recording.specs.Kinds.{numbers_of, kind_with}
-use Rattle.recording.specs.Contents.{Content}
-use Rattle.recording.specs.Records.{put_first, numbers_at, is_printable, with_numbers, after_letter, of_kind, body_at}
+use Rattle.recording.specs.Records.{put_first, numbers_at, is_printable, after_letter, of_kind, body_at}
 use Rattle.recording.proofs.Groups.{tail}
 
 -- the text of a note, byte by byte

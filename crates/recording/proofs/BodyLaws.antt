@@ -1,7 +1,7 @@
 -- Each answer on a body, with its condition on the body's bytes.
-use Rattle.std.proofs.Common.{◌≡◌, ℕ, zero, suc, ◌^◌, ◌<◌, ◌≤◌, Bool, true, false, ◌&&◌, leb, ◌⊎◌, List, [], ◌∷◌, ◌++◌, length, get_or, Some, None, Ok, Err, Option, Result, sym, refl, ap, ◌∙◌, subst, inl, inr, ⊎_elim, append_assoc, append-nil, arith}
-use Rattle.std.specs.List.{flat_map, AllByRecursion as All}
-use Rattle.std.proofs.lemmas.Bool.{leb-true, le-leb, lt-leb, cases_lt, cases_Bool, cond-true, cond-false}
+use Rattle.std.proofs.Common.{◌≡◌, ℕ, zero, suc, ◌<◌, Bool, true, false, ◌&&◌, leb, ◌⊎◌, List, [], ◌∷◌, ◌++◌, length, Some, None, Ok, Err, Option, Result, sym, refl, ap, ◌∙◌, subst, inl, inr, ⊎_elim, append_assoc, append-nil, arith}
+use Rattle.std.specs.List.{flat_map, AllByRecursion}
+use Rattle.std.proofs.lemmas.Bool.{lt-leb, cases_lt, cond-true, cond-false}
 use Rattle.std.proofs.lemmas.Bool.Decides.{nat_tests}
 use Rattle.faults.specs.declared.NumberFault.{NumberFault}
 use Rattle.faults.specs.declared.RecordFault.{RecordFault}
@@ -12,7 +12,7 @@ use Rattle.faults.specs.Faults.{truncated, malformed, bad_body}
 use Rattle.recording.specs.Numbers.{NumberRead, got, fails, number_at, shortest, BeginsWith, CutNumber, IllFormedNumber}
 use Rattle.recording.specs.Kinds.{letter_of, numbers_of, kind_with}
 use Rattle.recording.specs.Contents.{Content, numbered, noted, Below32, Printable, InForm, body_bytes}
-use Rattle.recording.specs.Conditions.{CutAt, NumberDue, LeftOver, UnknownLetter, NotText, Unfit}
+use Rattle.recording.specs.Conditions.{NumberDue, LeftOver, UnknownLetter, NotText, Unfit}
 use Rattle.recording.specs.Records.{put_first, numbers_at, is_printable, text_at, with_numbers, after_letter, of_kind, body_at}
 use Rattle.recording.proofs.NumberLaws.{Bytes, NumberView, begins, cut, none, number_view, reads_back}
 use Rattle.recording.proofs.KindLaws.{by_letter, letter_is, no_kind, only_note}
@@ -36,7 +36,7 @@ pub record Blemish (text : List ℕ) : Type 0 where
   pub outside : (byte < 0x20) ⊎ (0x7E < byte)
 
 pub data TextView (text : List ℕ) : Bool → Type 0 where
-  clean : All Printable text → TextView text true
+  clean : AllByRecursion Printable text → TextView text true
   spoilt : Blemish text → TextView text false
 
 here : (b : ℕ) (text : List ℕ) → ((b < 0x20) ⊎ (0x7E < b)) → (t : Bool) → (leb 0x20 b && leb b 0x7E) ≡ false → TextView (b ∷ text) ((leb 0x20 b && leb b 0x7E) && t)
@@ -60,7 +60,7 @@ text_view (b ∷ text) =
     (cases_lt 0x7E b))
     (cases_lt b 0x20)
 
-text_clean : (text : List ℕ) → All Printable text → is_printable text ≡ true
+text_clean : (text : List ℕ) → AllByRecursion Printable text → is_printable text ≡ true
 text_clean [] a = refl
 text_clean (b ∷ text) a = let l = a.0.0 in let h = a.0.1 in let t = text_clean text a.1 in grind (arith, nat_tests)
 
@@ -71,7 +71,7 @@ text_spoilt (b ∷ before) byte after out = let t = text_spoilt before byte afte
 module _ (place : ℕ) where
   -- some numbers in their shortest forms, and a tail
   pub record Spelt (bs ns tail : List ℕ) : Type 0 where
-    pub below : All Below32 ns
+    pub below : AllByRecursion Below32 ns
     pub parts : bs ≡ flat_map shortest ns ++ tail
 
   pub data NumbersView (k : ℕ) (bs : List ℕ) : Result (List ℕ) RecordFault → Type 0 where
@@ -112,7 +112,7 @@ module _ (place : ℕ) where
   numbers_view (suc k) bs byte = subst (NumbersView (suc k) bs) (same_steps k (number_at place bs)) (one_then k bs (numbers_view k) byte (number_view place bs byte))
 
   -- the conditions give the answers
-  pub numbers_all : (ns : List ℕ) → All Below32 ns → numbers_at place (length ns) (flat_map shortest ns) ≡ Ok ns
+  pub numbers_all : (ns : List ℕ) → AllByRecursion Below32 ns → numbers_at place (length ns) (flat_map shortest ns) ≡ Ok ns
   numbers_all [] a = refl
   numbers_all (n ∷ ns) a =
       sym (one_more place (length ns) n (flat_map shortest (n ∷ ns)) (flat_map shortest ns) (sym (reads_back place n (flat_map shortest ns) a.0))) ∙
@@ -125,12 +125,12 @@ module _ (place : ℕ) where
       sym (one_more place k n (shortest n ++ bs) bs (sym (reads_back place n bs low))) ∙
       ap (put_first n) e
 
-  pub numbers_stop : (k : ℕ) (ns tail : List ℕ) (fault : NumberFault) → length ns < k → All Below32 ns → number_at place tail ≡ fails fault → numbers_at place k (flat_map shortest ns ++ tail) ≡ Err (Number fault)
+  pub numbers_stop : (k : ℕ) (ns tail : List ℕ) (fault : NumberFault) → length ns < k → AllByRecursion Below32 ns → number_at place tail ≡ fails fault → numbers_at place k (flat_map shortest ns ++ tail) ≡ Err (Number fault)
   numbers_stop zero ns tail fault few a e = absurd (omega arith)
   numbers_stop (suc k) [] tail fault few a e = sym (no_more place k tail fault (sym e))
   numbers_stop (suc k) (n ∷ ns) tail fault few a e = first_one k n ns tail (Number fault) a.0 (numbers_stop k ns tail fault (omega arith) a.1 e)
 
-  pub numbers_left : (ns tail : List ℕ) → All Below32 ns → 0 < length tail → numbers_at place (length ns) (flat_map shortest ns ++ tail) ≡ Err (bad_body place)
+  pub numbers_left : (ns tail : List ℕ) → AllByRecursion Below32 ns → 0 < length tail → numbers_at place (length ns) (flat_map shortest ns ++ tail) ≡ Err (bad_body place)
   numbers_left [] [] a some = absurd (omega arith)
   numbers_left [] (t ∷ tail) a some = refl
   numbers_left (n ∷ ns) tail a some = first_one (length ns) n ns tail (bad_body place) a.0 (numbers_left ns tail a.1 some)

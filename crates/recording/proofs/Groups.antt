@@ -1,11 +1,11 @@
 -- One group of a number, at the front of the bytes.
-use Rattle.std.proofs.Common.{◌≡◌, ℕ, zero, suc, ◌+◌, ◌-◌, ◌*◌, ◌<◌, ◌≤◌, List, [], ◌∷◌, length, get_or, Ok, Err, sym, refl, ap, ◌∙◌, arith}
+use Rattle.std.proofs.Common.{◌≡◌, ℕ, zero, suc, ◌+◌, ◌-◌, ◌*◌, ◌<◌, ◌≤◌, List, [], ◌∷◌, length, get_or, Err, sym, refl, ap, ◌∙◌, arith}
 use Rattle.std.specs.List.{between}
 use Rattle.std.proofs.lemmas.Slice.{between_to_end}
 use Rattle.std.proofs.lemmas.Bool.{lt-ltb, le-ltb, le-leb, eq-eqb, ne_eqb, cond-true, cond-false}
 use Rattle.std.proofs.lemmas.Bool.Decides.{nat_tests}
 use Rattle.faults.specs.Faults.{truncated_number, malformed_number}
-use Rattle.recording.specs.Numbers.{NumberRead, got, fails, joined_number, with_rest, join, groups}
+use Rattle.recording.specs.Numbers.{got, fails, joined_number, with_rest, join, groups}
 
 pub tail : (b : ℕ) (bs : List ℕ) → between 1 (length (b ∷ bs)) (b ∷ bs) ≡ bs
 tail b bs = between_to_end (b ∷ bs) 1 (length (b ∷ bs)) (omega arith)

@@ -1,12 +1,11 @@
 -- A number is read exactly where its shortest form reads-there.
 use Rattle.std.proofs.Common.{◌≡◌, ℕ, zero, suc, ◌+◌, ◌-◌, ◌*◌, ◌/◌, ◌%◌, ◌^◌, ◌<◌, ◌≤◌, ◌⊎◌, List, [], ◌∷◌, ◌++◌, length, get_or, sym, refl, ap, ◌∙◌, subst, inl, inr, ⊎_elim, pow-suc, arith}
-use Rattle.std.specs.List.{AllByRecursion as All}
+use Rattle.std.specs.List.{AllByRecursion}
 use Rattle.std.proofs.lemmas.Nat.{div-mul-add, mod-mul-add, div_below, div-add-mod'}
 use Rattle.std.proofs.lemmas.Bool.{lt-ltb, le-ltb, cases_lt, cases_eq, cond-true, cond-false}
 use Rattle.faults.specs.declared.NumberFault.{NumberFault}
 use Rattle.faults.specs.Faults.{number_fault_number, truncated_number, malformed_number}
-use Rattle.recording.specs.Exactly.{Exactly}
-use Rattle.recording.specs.Numbers.{NumberRead, got, fails, join, groups, number_at, shortest_in, shortest, BeginsWith, CutNumber, IllFormedNumber, ReadExactly, ReadsBack}
+use Rattle.recording.specs.Numbers.{NumberRead, got, fails, join, groups, number_at, shortest_in, BeginsWith, CutNumber, IllFormedNumber, ReadExactly, ReadsBack}
 use Rattle.recording.proofs.Groups.{none_above, over, joins}
 
 -- a list of bytes
@@ -91,7 +90,7 @@ module _ (place : ℕ) where
       ap (λ m. got m rest) parts)
       (cases_lt n 128)
 
-  cut_only : (k : ℕ) (bs : List ℕ) → groups place k bs ≡ fails (truncated_number place) → (length bs < k) × All (λ b. 128 ≤ b) bs
+  cut_only : (k : ℕ) (bs : List ℕ) → groups place k bs ≡ fails (truncated_number place) → (length bs < k) × AllByRecursion (λ b. 128 ≤ b) bs
   cut_only zero bs h = absurd (apart h)
   cut_only (suc k) [] h = (omega arith, tt)
   cut_only (suc k) (b ∷ bs) h =
@@ -102,7 +101,7 @@ module _ (place : ℕ) where
       (omega (arith, tail.0), (high, tail.1)))
       (cases_lt b 128)
 
-  cut_always : (k : ℕ) (bs : List ℕ) → length bs < k → All (λ b. 128 ≤ b) bs → groups place k bs ≡ fails (truncated_number place)
+  cut_always : (k : ℕ) (bs : List ℕ) → length bs < k → AllByRecursion (λ b. 128 ≤ b) bs → groups place k bs ≡ fails (truncated_number place)
   cut_always zero bs short tops = absurd (omega arith)
   cut_always (suc k) [] short tops = refl
   cut_always (suc k) (b ∷ bs) short tops = cond-false _ _ _ (le-ltb b 128 tops.0) ∙ ap (join place (b - 128)) (cut_always k bs (omega arith) tops.1)

@@ -1,18 +1,16 @@
 -- What is read at an offset of a recording.
-use Rattle.std.proofs.Common.{◌≡◌, ℕ, suc, ◌+◌, ◌-◌, ◌<◌, ◌≤◌, Bool, true, false, cond, ◌⊎◌, List, [], ◌∷◌, ◌++◌, length, take, drop, Some, None, Ok, Err, Option, Result, sym, refl, ap, ◌∙◌, subst, inl, inr, ⊎_elim, append_assoc, arith, length-append, length-drop}
+use Rattle.std.proofs.Common.{◌≡◌, ℕ, ◌+◌, ◌-◌, ◌<◌, ◌≤◌, Bool, true, false, List, [], ◌∷◌, ◌++◌, length, take, drop, Some, None, Ok, Err, Option, Result, sym, refl, ap, ◌∙◌, subst, inl, inr, append_assoc, arith, length-append, length-drop}
 use Rattle.std.specs.List.{between}
-use Rattle.std.proofs.lemmas.List.{take_at, drop_at, drop-drop, drop_all}
+use Rattle.std.proofs.lemmas.List.{take_at, drop_at, drop-drop}
 use Rattle.std.proofs.lemmas.Slice.{between_to_end}
 use Rattle.std.proofs.lemmas.Bool.{both_ways, lt-ltb, le-ltb, cond-true, cond-false}
 use Rattle.faults.specs.declared.RecordFault.{RecordFault}
-use Rattle.recording.specs.Exactly.{Exactly}
-use Rattle.faults.specs.Faults.{fault_place, fault_number, ends_run, EndsRun, truncated, malformed, bad_body, no_open_subframe}
+use Rattle.faults.specs.Faults.{fault_place, fault_number, ends_run, EndsRun, no_open_subframe}
 use Rattle.recording.specs.Numbers.{shortest}
 use Rattle.recording.specs.Contents.{Content, numbered, noted, out_of_place, body_bytes, record_bytes}
-use Rattle.recording.specs.Conditions.{Stands, EndsEarly, IllFormed, UnfitBody}
+use Rattle.recording.specs.Conditions.{Stands}
 use Rattle.recording.specs.Records.{RecordOutcome, whole, refused, RecordExactly, record_at}
 use Rattle.recording.specs.Reading.{admitted, next_answer, behind, next_offset, StandsAt, NextExactly}
-use Rattle.recording.proofs.NumberLaws.{Bytes}
 use Rattle.recording.proofs.RecordLaws.{reads_whole}
 
 some_body : (c : Content) → 0 < length (body_bytes c)

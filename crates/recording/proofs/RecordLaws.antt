@@ -1,16 +1,14 @@
 -- Each answer on a record, with its condition on the bytes.
-use Rattle.std.proofs.Common.{◌≡◌, ℕ, ◌^◌, ◌<◌, ◌≤◌, ◌⊎◌, List, [], ◌∷◌, ◌++◌, length, take, drop, Ok, Err, Result, sym, refl, ap, ◌∙◌, subst, inl, inr, ⊎_elim, append_assoc, arith, length-append, take-append-drop}
+use Rattle.std.proofs.Common.{◌≡◌, ℕ, ◌^◌, ◌<◌, ◌≤◌, List, ◌∷◌, ◌++◌, length, take, drop, Err, Result, sym, refl, ap, ◌∙◌, subst, inl, inr, ⊎_elim, append_assoc, arith, length-append, take-append-drop}
 use Rattle.std.specs.List.{flat_map}
 use Rattle.std.proofs.lemmas.List.{take_at, drop_at, length-take-le}
 use Rattle.std.proofs.lemmas.Bool.{lt-ltb, le-ltb, cases_lt, cond-true, cond-false}
 use Rattle.faults.specs.declared.RecordFault.{RecordFault}
-use Rattle.faults.specs.declared.RecordFault.TheVariants.{Number}
 use Rattle.faults.specs.Faults.{fault_number, truncated_number, malformed_number, truncated, malformed, bad_body, EndsRun}
-use Rattle.recording.specs.Exactly.{Exactly}
-use Rattle.recording.specs.Numbers.{NumberRead, got, fails, number_at, shortest, BeginsWith, CutNumber, IllFormedNumber}
+use Rattle.recording.specs.Numbers.{NumberRead, got, shortest, IllFormedNumber}
 use Rattle.recording.specs.Kinds.{letter_of}
-use Rattle.recording.specs.Contents.{Content, body_bytes, record_bytes}
-use Rattle.recording.specs.Conditions.{Stands, HasBody, CutBody, InBody, NumberDue, EndsEarly, IllFormed, UnfitBody}
+use Rattle.recording.specs.Contents.{Content, body_bytes}
+use Rattle.recording.specs.Conditions.{Stands, HasBody, InBody, NumberDue, EndsEarly, IllFormed, UnfitBody}
 use Rattle.recording.specs.Records.{RecordOutcome, whole, refused, RecordExactly, followed, body_at, after_length, record_at}
 use Rattle.recording.proofs.NumberLaws.{Bytes, NumberView, begins, cut, none, number_view, reads_there, cut_fails, none_fails}
 use Rattle.recording.proofs.BodyLaws.{bytes_after, bytes_before, BodyView, says, ends, fails_at, bad, body_view, body_says, body_stops, body_bad}

@@ -1,24 +1,23 @@
 -- A whole recording, record by record.
-use Rattle.std.proofs.Common.{◌≡◌, ℕ, suc, ◌+◌, ◌-◌, ◌<◌, ◌≤◌, Bool, true, false, cond, ◌⊎◌, List, [], ◌∷◌, ◌++◌, length, take, drop, Some, None, Ok, Err, Option, Result, sym, refl, ap, ◌∙◌, subst, inl, inr, ⊎_elim, append_assoc, append-nil, arith, length-append, length-drop, take-append-drop, take-add}
-use Rattle.std.specs.List.{flat_map, AllByRecursion as All}
+use Rattle.std.proofs.Common.{◌≡◌, ℕ, ◌+◌, ◌-◌, ◌<◌, ◌≤◌, Bool, true, false, cond, ◌⊎◌, List, [], ◌∷◌, ◌++◌, length, take, drop, Some, None, Ok, Err, Option, sym, refl, ap, ◌∙◌, subst, inl, inr, append_assoc, append-nil, arith, length-append, length-drop, take-append-drop, take-add}
+use Rattle.std.specs.List.{flat_map, AllByRecursion}
 use Rattle.std.proofs.ByRecursion.{All-push}
-use Rattle.std.proofs.lemmas.List.{take_at, drop_at, take_all, flat_map_more, length_push}
+use Rattle.std.proofs.lemmas.List.{take_at, take_all, flat_map_more, length_push}
 use Rattle.std.proofs.lemmas.Bool.{false≢true, and_parts, and_right, cond-true, cond-false}
 use Rattle.faults.specs.declared.RecordFault.{RecordFault}
 use Rattle.recording.specs.declared.kinds.RecordKind.{RecordKind}
 use Rattle.recording.specs.declared.kinds.RecordKind.TheVariants.{Set, Shares, Loss, Command, Open, Want, Settle, Drop, Note}
 use Rattle.recording.specs.declared.runs.Tally.{Tally}
-use Rattle.faults.specs.Faults.{fault_number, ends_run, EndsRun, truncated, malformed, bad_body, no_open_subframe}
+use Rattle.faults.specs.Faults.{ends_run, EndsRun, no_open_subframe}
 use Rattle.recording.specs.Kinds.{needs_open, leaves_open}
 use Rattle.recording.specs.Contents.{Content, content_kind, out_of_place, open_after, Recordable, record_bytes}
-use Rattle.recording.specs.Conditions.{Stands, EndsEarly, IllFormed, UnfitBody}
-use Rattle.recording.specs.Records.{RecordOutcome, whole, refused, record_at}
+use Rattle.recording.specs.Records.{refused, record_at}
 use Rattle.recording.specs.Reading.{StandsAt, NextExactly}
-use Rattle.recording.specs.Runs.{open_after_all, misplaced, CannotRead, RunEnd, Consecutive, one_if_any, tally_of, RunsThrough, OnlyRun}
+use Rattle.recording.specs.Runs.{open_after_all, misplaced, CannotRead, RunEnd, one_if_any, tally_of, RunsThrough, OnlyRun}
 use Rattle.recording.proofs.NumberLaws.{Bytes}
 use Rattle.recording.proofs.BodyLaws.{bytes_after}
 use Rattle.recording.proofs.RecordLaws.{record_exactly, reads_whole}
-use Rattle.recording.proofs.ReadingLaws.{some_bytes, inside}
+use Rattle.recording.proofs.ReadingLaws.{some_bytes}
 
 -- one record more
 open_push : (o : Bool) (cs : List Content) (c : Content) → open_after_all o (cs ++ c ∷ []) ≡ open_after (open_after_all o cs) c
@@ -48,7 +47,7 @@ unmoved false c e = kind_unmoved (content_kind c) (and_parts (needs_open (conten
 -- what was visited up to an offset
 pub record SoFar (bs : List ℕ) (at : ℕ) (o : Bool) (records faults : ℕ) : Type 0 where
   pub cs : List Content
-  pub recordable : All Recordable cs
+  pub recordable : AllByRecursion Recordable cs
   pub front : take at bs ≡ flat_map record_bytes cs
   pub is : at ≡ length (flat_map record_bytes cs)
   pub state : o ≡ open_after_all false cs
@@ -185,7 +184,7 @@ same_first c d xs ys a b e =
     let p = sym (reads_whole 0 c xs (record_bytes c ++ xs) (a, refl)) ∙ reads_whole 0 d ys (record_bytes c ++ xs) (b, e) in
     (cc, cc)
 
-same_records : (p q : ℕ) (cs ds : List Content) (xs ys : List ℕ) (e f : Option RecordFault) → Bytes xs → Bytes ys → All Recordable cs → All Recordable ds → RunEnd p xs e → RunEnd q ys f → flat_map record_bytes cs ++ xs ≡ flat_map record_bytes ds ++ ys → (cs ≡ ds) × (xs ≡ ys)
+same_records : (p q : ℕ) (cs ds : List Content) (xs ys : List ℕ) (e f : Option RecordFault) → Bytes xs → Bytes ys → AllByRecursion Recordable cs → AllByRecursion Recordable ds → RunEnd p xs e → RunEnd q ys f → flat_map record_bytes cs ++ xs ≡ flat_map record_bytes ds ++ ys → (cs ≡ ds) × (xs ≡ ys)
 same_records p q [] [] xs ys e f bx by a b x y is = (refl, is)
 same_records p q [] (d ∷ ds) xs ys e f bx by a b x y is =
     absurd (no_record p xs e d (flat_map record_bytes ds ++ ys) bx x b.0 (is ∙ append_assoc (record_bytes d) (flat_map record_bytes ds) ys))

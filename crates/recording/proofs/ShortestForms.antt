@@ -1,8 +1,8 @@
 -- The shortest form of a number is the shortest of its forms.
-use Rattle.std.proofs.Common.{◌≡◌, ℕ, zero, suc, ◌+◌, ◌*◌, ◌/◌, ◌%◌, ◌^◌, ◌<◌, ◌≤◌, List, [], ◌∷◌, length, sym, refl, ap, ◌∙◌, subst, ⊎_elim, pow-suc, arith}
+use Rattle.std.proofs.Common.{◌≡◌, ℕ, zero, suc, ◌+◌, ◌/◌, ◌%◌, ◌^◌, ◌<◌, ◌≤◌, List, [], ◌∷◌, length, sym, ap, ◌∙◌, subst, ⊎_elim, pow-suc, arith}
 use Rattle.std.proofs.lemmas.Nat.{div_below}
 use Rattle.std.proofs.lemmas.Bool.{le-ltb, cases_lt, cond-false}
-use Rattle.recording.specs.Numbers.{shortest_in, shortest, Form, worth, IsShortest, ShortestNumber}
+use Rattle.recording.specs.Numbers.{shortest_in, Form, worth, ShortestNumber}
 use Rattle.recording.proofs.NumberLaws.{one_group}
 
 longer : (b : ℕ) (form : List ℕ) → 128 ≤ b → b < 256 → Form form → Form (b ∷ form)

@@ -1,6 +1,6 @@
 -- What stands at the front of some bytes, where a record is to begin: the record, or why there is none.
 use Rattle.std.specs.Prelude.{◌≡◌, ℕ, ◌^◌, ◌<◌, ◌⊎◌, List, [], ◌∷◌, ◌++◌, length, Some, ◌≢◌}
-use Rattle.std.specs.List.{flat_map, AllByRecursion as All}
+use Rattle.std.specs.List.{flat_map, AllByRecursion}
 use Rattle.recording.specs.declared.kinds.RecordKind.{RecordKind}
 use Rattle.recording.specs.declared.kinds.RecordKind.TheVariants.{Note as NoteKind}
 use Rattle.recording.specs.Numbers.{shortest, BeginsWith, CutNumber, IllFormedNumber}
@@ -27,7 +27,7 @@ pub record CutBody (bytes : List ℕ) : Type 0 where
 -- a body is a letter that calls for numbers, some numbers in their shortest forms, and a tail
 pub record CutAt (body : List ℕ) (kind : RecordKind) (count : ℕ) (ns tail : List ℕ) : Type 0 where
   pub calls : numbers_of kind ≡ Some count
-  pub below : All Below32 ns
+  pub below : AllByRecursion Below32 ns
   pub parts : body ≡ letter_of kind ∷ (flat_map shortest ns ++ tail)
 
 -- after fewer numbers than the letter calls for stands what P says

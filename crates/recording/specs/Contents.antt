@@ -1,6 +1,6 @@
 -- What a record says, and the bytes that say it.
 use Rattle.std.specs.Prelude.{◌≡◌, ℕ, ◌^◌, ◌<◌, ◌≤◌, Bool, not, ◌&&◌, List, [], ◌∷◌, ◌++◌, length, Some}
-use Rattle.std.specs.List.{flat_map, AllByRecursion as All}
+use Rattle.std.specs.List.{flat_map, AllByRecursion}
 use Rattle.recording.specs.declared.kinds.RecordKind.{RecordKind}
 use Rattle.recording.specs.declared.kinds.RecordKind.TheVariants.{Set as SetKind, Shares as SharesKind, Loss as LossKind, Command as CommandKind, Open as OpenKind, Want as WantKind, Settle as SettleKind, Drop as DropKind, Note as NoteKind}
 use Rattle.recording.specs.declared.records.Record.{Record}
@@ -45,8 +45,8 @@ Printable b = (0x20 ≤ b) × (b ≤ 0x7E)
 
 -- as many numbers as the letter calls for, or text
 abbrev pub InForm : Content → Type 0
-InForm (numbered kind ns) = (numbers_of kind ≡ Some (length ns)) × All Below32 ns
-InForm (noted text) = All Printable text
+InForm (numbered kind ns) = (numbers_of kind ≡ Some (length ns)) × AllByRecursion Below32 ns
+InForm (noted text) = AllByRecursion Printable text
 
 -- the body: a letter, and the numbers in their shortest forms or the text
 abbrev pub body_bytes : Content → List ℕ

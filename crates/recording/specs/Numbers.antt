@@ -1,6 +1,6 @@
 -- A number: groups of seven bits, lowest group first, the top bit set on all bytes but the last.
 use Rattle.std.specs.Prelude.{◌≡◌, ℕ, zero, suc, ◌+◌, ◌-◌, ◌*◌, ◌/◌, ◌%◌, ◌^◌, ◌<◌, ◌≤◌, cond, List, [], ◌∷◌, ◌++◌, length, Ok, Err, Result, ◌==◌, nat_le, nat_lt}
-use Rattle.std.specs.List.{AllByRecursion as All}
+use Rattle.std.specs.List.{AllByRecursion}
 use Rattle.faults.specs.declared.NumberFault.{NumberFault}
 use Rattle.recording.specs.declared.numbers.Number.{Number}
 use Rattle.faults.specs.Faults.{truncated_number, malformed_number}
@@ -43,7 +43,7 @@ BeginsWith n rest bytes = (n < 2 ^ 32) × (bytes ≡ shortest n ++ rest)
 
 -- the bytes end inside a number: fewer than five are left, and all have the top bit set
 abbrev pub CutNumber : List ℕ → Type 0
-CutNumber bytes = (length bytes < 5) × All (λ b. 128 ≤ b) bytes
+CutNumber bytes = (length bytes < 5) × AllByRecursion (λ b. 128 ≤ b) bytes
 
 -- every other case: over five bytes, over 4,294,967,295, or not in the shortest form
 abbrev pub IllFormedNumber : List ℕ → Type 0

@@ -1,6 +1,6 @@
 -- A whole recording: consecutive records, and then its end or its first fault that ends a run.
 use Rattle.std.specs.Prelude.{◌≡◌, ℕ, ◌+◌, ◌-◌, ◌<◌, Bool, false, cond, ◌⊎◌, List, [], ◌∷◌, ◌++◌, length, Some, None, Option}
-use Rattle.std.specs.List.{flat_map, AllByRecursion as All}
+use Rattle.std.specs.List.{flat_map, AllByRecursion}
 use Rattle.faults.specs.declared.RecordFault.{RecordFault}
 use Rattle.recording.specs.declared.runs.Tally.{Tally}
 use Rattle.faults.specs.Faults.{truncated, malformed, bad_body}
@@ -30,7 +30,7 @@ RunEnd place rest (Some fault) = (0 < length rest) × CannotRead place rest faul
 -- the bytes are these records, one after another, and what ends the run
 pub record Consecutive (bytes : List ℕ) (cs : List Content) (end : Option RecordFault) : Type 0 where
   pub rest : List ℕ
-  pub recordable : All Recordable cs
+  pub recordable : AllByRecursion Recordable cs
   pub one_by_one : bytes ≡ flat_map record_bytes cs ++ rest
   pub ends : RunEnd (length (flat_map record_bytes cs)) rest end
 

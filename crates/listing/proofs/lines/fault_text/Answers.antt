@@ -1,6 +1,6 @@
 use Rattle.std.proofs.Common.{◌≡◌, [], ◌∷◌, codes, decimal, ap, ◌∙◌}
 use lib.Utf8.{encode}
-use Rattle.faults.specs.Faults.{fault_place, fault_layer, fault_number, layer_letter}
+use Rattle.faults.specs.Faults.{fault_place, fault_layer, layer_letter}
 use Rattle.listing.specs.Lines.{pieces, marked, fault_line}
 use Rattle.listing.proofs.Shown.{letter_shown, as_text}
 use Rattle.listing.proofs.lines.fault_text.Goals as goal

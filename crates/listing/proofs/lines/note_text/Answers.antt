@@ -1,6 +1,5 @@
-use Rattle.std.proofs.Common.{◌<◌, [], ◌∷◌, ◌++◌, map, get_or, sym, ap, ◌∙◌, arith}
+use Rattle.std.proofs.Common.{[], ◌∷◌, map, get_or, ap, ◌∙◌, arith}
 use Rattle.std.proofs.lemmas.List.{map_more, take_all}
-use Rattle.std.proofs.lemmas.Bool.Decides.{nat_tests}
 use Rattle.listing.specs.Lines.{shown_byte}
 use Rattle.listing.proofs.Shown.{shown_below}
 use Rattle.listing.proofs.lines.note_text.Goals as goal

@@ -1,4 +1,4 @@
-use Rattle.std.proofs.Common.{◌≡◌, ◌+◌, length, Some, Ok, Err, sym, refl, ap, ◌∙◌, subst, arith}
+use Rattle.std.proofs.Common.{◌+◌, length, Some, Ok, Err, sym, ap, ◌∙◌, subst, arith}
 use Rattle.recording.specs.Contents.{content}
 use Rattle.recording.specs.Reading.{next_read, Forward, NextExactly}
 use Rattle.recording.proofs.RunLaws.{SoFar, at_its_end, at_its_fault, goes_on, reads_on, only_run}

@@ -1,13 +1,13 @@
 -- The lines of a recording are those of the records that it is cut into.
-use Rattle.std.proofs.Common.{◌≡◌, ℕ, zero, suc, ◌+◌, ◌<◌, ◌≤◌, Bool, true, false, cond, List, [], ◌∷◌, ◌++◌, length, drop, Some, None, Ok, Err, Option, Result, sym, refl, ap, ◌∙◌, subst, inl, inr, append_assoc, append-nil, add-zero, zero-add, arith, length-append, length-drop}
+use Rattle.std.proofs.Common.{◌≡◌, ℕ, zero, suc, ◌+◌, ◌<◌, ◌≤◌, Bool, true, false, cond, List, [], ◌∷◌, ◌++◌, length, drop, Some, None, Ok, Err, Option, Result, sym, refl, ap, ◌∙◌, subst, inl, inr, append_assoc, add-zero, zero-add, arith, length-append, length-drop}
 use Rattle.std.specs.List.{flat_map, AllByRecursion}
 use Rattle.faults.specs.declared.RecordFault.{RecordFault}
-use Rattle.faults.specs.Faults.{ends_run, EndsRun, truncated, malformed, bad_body, no_open_subframe}
+use Rattle.faults.specs.Faults.{ends_run, no_open_subframe}
 use Rattle.lines.specs.declared.line.Line.{Line}
 use Rattle.recording.specs.Contents.{Content, out_of_place, Recordable, record_bytes}
-use Rattle.recording.specs.Records.{RecordOutcome, whole, refused, record_at}
-use Rattle.recording.specs.Reading.{admitted, next_answer, next_offset}
-use Rattle.recording.specs.Runs.{CannotRead, RunEnd, Consecutive}
+use Rattle.recording.specs.Records.{whole, refused}
+use Rattle.recording.specs.Reading.{next_answer, next_offset}
+use Rattle.recording.specs.Runs.{CannotRead, RunEnd}
 use Rattle.recording.proofs.NumberLaws.{Bytes}
 use Rattle.recording.proofs.BodyLaws.{bytes_after}
 use Rattle.recording.proofs.RecordLaws.{reads_whole}
@@ -15,7 +15,7 @@ use Rattle.recording.proofs.ReadingLaws.{some_bytes, inside, rest_is, ending_cod
 use Rattle.recording.proofs.RunLaws.{fault_there}
 use Rattle.states.specs.declared.state.State.{State}
 use Rattle.states.specs.States.{fresh, is_open}
-use Rattle.player.specs.Played.{last_line, played, record_lines, item_lines, item_played, item_ends, lines_of_records, lines_from, lines_of, LinesOfTheRecords}
+use Rattle.player.specs.Played.{last_line, played, record_lines, item_lines, item_played, item_ends, lines_of_records, lines_from, LinesOfTheRecords}
 
 -- a fault that ends a run
 ends_it : (place : ℕ) (bytes : List ℕ) (fault : RecordFault) → CannotRead place bytes fault → ends_run fault ≡ true

@@ -1,4 +1,4 @@
-use Rattle.std.proofs.Common.{Ok, Err, Result, sym, refl, subst}
+use Rattle.std.proofs.Common.{Ok, Err, refl}
 use Rattle.player.proofs.Wanting.{want_plays}
 use Rattle.player.proofs.record.play_want.Goals as goal
 

@@ -1,4 +1,4 @@
-use Rattle.std.proofs.Common.{◌≡◌, ◌<◌, ◌≤◌, ◌++◌, length, vec_items, sym, refl, ap, ◌∙◌, arith}
+use Rattle.std.proofs.Common.{◌++◌, length, vec_items, sym, ap, ◌∙◌, arith}
 use Rattle.std.proofs.lemmas.Result.{IfOk-from_err}
 use Rattle.recording.specs.Records.{body_read}
 use Rattle.recording.specs.Reading.{next_offset}
@@ -7,7 +7,7 @@ use Rattle.player.specs.Played.{ticket_of, item_lines, lines_of}
 use Rattle.player.proofs.InRecords.{of_the_records}
 use Rattle.player.proofs.Turns.{held_is_open, in_place, starts, read_here, forth, goes_on, ends_here, at_its_end}
 use Rattle.player.proofs.whole.play.Goals as goal
-use Rattle.player.proofs.whole.play.Goals.{in-Some+then-ends, in-default}
+use Rattle.player.proofs.whole.play.Goals.{in-Some+then-ends, in_default}
 
 pub returns-in_err-lines : goal.returns-in_err-lines
 returns-in_err-lines g c = record { lines = IfOk-from_err c.from_residual.result _ c.from_residual.ensures.0; lines_of_the_records = of_the_records g.R.HoldingRule.reserve c.args.recording.now c.args.rule (λ i. omega (arith, c.type_inv.recording i)) }
@@ -68,8 +68,8 @@ returns g c =
             let read = read_here _ bytes at c.is_some.result (is_open c.loop-item.terminal.state.subframe) _ inv.0 o w.in-Some.ensures.answer in
             let shown = w.add.ensures.items ∙ ap (λ l. vec_items c.loop-item.lines ++ l) (p.shows ∙ ap (λ n. item_lines reserve n (c.loop-item.terminal.state, c.loop-item.terminal.rule) (body_read w.in-Some.item)) inv.2) in
             ap vec_items w.lines-is ∙ (ends_here reserve bytes _ (c.loop-item.terminal.state, c.loop-item.terminal.rule) at _ inv.6 inv.1 (body_read w.in-Some.item) read (sym p.ends_where ∙ w.if-ends.true) _ shown ∙ ruled)
-        | in-default w ↦
-            let read = read_here _ bytes at c.is_some.result (is_open c.loop-item.terminal.state.subframe) _ inv.0 o w.in-default.ensures.answer in
+        | in_default w ↦
+            let read = read_here _ bytes at c.is_some.result (is_open c.loop-item.terminal.state.subframe) _ inv.0 o w.in_default.ensures.answer in
             ap vec_items w.lines-is ∙ (at_its_end reserve bytes _ (c.loop-item.terminal.state, c.loop-item.terminal.rule) at _ inv.6 inv.1 read ∙ ruled)
       ];
       lines_of_the_records = of_the_records reserve bytes c.args.rule (λ i. omega (arith, c.type_inv.recording i));

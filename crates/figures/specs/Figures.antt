@@ -1,5 +1,5 @@
 -- Figures worked out on the bench, and what it is for one to be right.
-use Rattle.std.specs.Prelude.{◌≡◌, List, [], ◌∷◌, ℤ, pos, negsuc}
+use Rattle.std.specs.Prelude.{◌≡◌, List, [], ◌∷◌, pos, negsuc}
 use Rattle.levels.specs.Levels.{level_of, power}
 use Rattle.split.specs.Shares.{split_of}
 use Rattle.sharing.specs.Guarantees.{guarantee_of}

@@ -29,9 +29,9 @@ meant n = signed_decimal (pos n -ℤ pos 2000)
 
 -- a record's place, its name, and its numbers by name
 abbrev pub record_line : ℕ → Record → List ℕ
-record_line place (Set cell loop-kind maximum data-base path-factor control-base) =
-    pieces (decimal place ∷ codes " SET cell " ∷ decimal cell ∷ codes ", loop kind " ∷ decimal loop-kind ∷ codes ", maximum " ∷ meant maximum ∷ []) ++
-    pieces (codes ", data base " ∷ meant data-base ∷ codes ", path factor " ∷ decimal path-factor ∷ codes ", control base " ∷ meant control-base ∷ [])
+record_line place (Set cell loop_kind maximum data_base path_factor control_base) =
+    pieces (decimal place ∷ codes " SET cell " ∷ decimal cell ∷ codes ", loop kind " ∷ decimal loop_kind ∷ codes ", maximum " ∷ meant maximum ∷ []) ++
+    pieces (codes ", data base " ∷ meant data_base ∷ codes ", path factor " ∷ decimal path_factor ∷ codes ", control base " ∷ meant control_base ∷ [])
 record_line place (Shares total master secondary) = pieces (decimal place ∷ codes " SHARES total " ∷ meant total ∷ codes ", master " ∷ decimal master ∷ codes ", secondary " ∷ decimal secondary ∷ [])
 record_line place (Loss cell loss) = pieces (decimal place ∷ codes " LOSS cell " ∷ decimal cell ∷ codes ", loss " ∷ decimal loss ∷ [])
 record_line place (Command cell channel code) = pieces (decimal place ∷ codes " COMMAND cell " ∷ decimal cell ∷ codes ", channel " ∷ decimal channel ∷ codes ", code " ∷ decimal code ∷ [])

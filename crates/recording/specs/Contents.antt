@@ -14,7 +14,7 @@ pub data Content : Type 0 where
   noted : List ℕ → Content
 
 abbrev pub content : Record → Content
-content (Set cell loop-kind maximum data-base path-factor control-base) = numbered SetKind (cell ∷ loop-kind ∷ maximum ∷ data-base ∷ path-factor ∷ control-base ∷ [])
+content (Set cell loop_kind maximum data_base path_factor control_base) = numbered SetKind (cell ∷ loop_kind ∷ maximum ∷ data_base ∷ path_factor ∷ control_base ∷ [])
 content (Shares total master secondary) = numbered SharesKind (total ∷ master ∷ secondary ∷ [])
 content (Loss cell loss) = numbered LossKind (cell ∷ loss ∷ [])
 content (Command cell channel code) = numbered CommandKind (cell ∷ channel ∷ code ∷ [])

@@ -41,7 +41,7 @@ grant_for (Some ControlInformation) g n = g.second
 grant_for (Some DataOnly) g n = n
 grant_for (Some Sounding) g n = 0
 
-abbrev pub cell_powers : CellDemand → ClassGrants → (data-share sounding-share : ℕ) → CellPowers
+abbrev pub cell_powers : CellDemand → ClassGrants → (data_share sounding_share : ℕ) → CellPowers
 cell_powers d g x y = record {
   control = record { wanted = d.powers.control; granted = grant_for (class_of_control d.wants.control) g 0 };
   «data» = record { wanted = d.powers.«data»; granted = grant_for (class_of_data d.wants.«data») g x };

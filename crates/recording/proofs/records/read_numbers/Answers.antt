@@ -1,8 +1,8 @@
-use Rattle.std.proofs.Common.{◌≡◌, ◌-◌, ◌<◌, [], length, sym, ap, ◌∙◌, arith, length-set, true-eqb}
+use Rattle.std.proofs.Common.{◌≡◌, ◌-◌, ◌<◌, [], length, sym, ap, ◌∙◌, arith, length-set}
 use lib.ListN.{length-replicate}
 use Rattle.std.proofs.lemmas.Result.{err_from_is_err_and}
 use Rattle.recording.specs.Records.{numbers_at}
-use Rattle.recording.proofs.Bodies.{after, after_none, number_on, number_off, number_all}
+use Rattle.recording.proofs.Bodies.{after, after_none, number_on, number_off}
 use Rattle.recording.proofs.records.read_numbers.Goals as goal
 
 pub loop-i-init : goal.loop-i-init
@@ -19,6 +19,3 @@ pub loop-i-preserved : goal.loop-i-preserved
 loop-i-preserved g c =
     let inside : c.loop-i.i < length c.loop-i.values = omega (arith, c.loop-i.invariant.0) in
     (length-set _ _ _ ∙ c.loop-i.invariant.0, c.loop-i.invariant.1 ∙ number_on c.args.place g.row.N _ _ _ _ _ inside c.loop-i.invariant.0 c.in_ok-read.ensures.answer)
-
-pub returns : goal.returns
-returns g c = sym (c.loop-i.invariant.1 ∙ number_all c.args.place g.row.N _ _ _ c.loop-i-test.false c.loop-i.invariant.0 (true-eqb _ 0 c.if-not-is_empty.ensures))

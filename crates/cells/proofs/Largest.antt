@@ -1,5 +1,5 @@
 -- No cell wants more than the power of its maximum.
-use Rattle.std.proofs.Common.{◌≡◌, ℕ, ◌+◌, ◌-◌, ◌≤◌, ℤ, pos, Some, None, Option, sym, refl, subst, arith}
+use Rattle.std.proofs.Common.{IfSome, ◌≡◌, ℕ, ◌+◌, ◌-◌, ◌≤◌, ℤ, pos, Some, None, Option, sym, refl, subst, arith}
 use Rattle.levels.specs.Levels.{W, scaled, mantissas, power}
 use Rattle.levels.proofs.Rule.{monotone}
 use Rattle.cells.specs.declared.settings.Settings.{Settings}
@@ -11,7 +11,6 @@ use Rattle.cells.specs.declared.wants.DataWant.{DataWant}
 use Rattle.cells.specs.declared.wants.SoundingWant.{SoundingWant}
 use Rattle.cells.specs.declared.wants.CellWants.{CellWants}
 use Rattle.cells.specs.Ranges.{SettingsInRange, raw_settings_of}
-use Rattle.cells.specs.WantRanges.{IfSome}
 use Rattle.cells.specs.Powers.{data_values, control_power, data_power, sounding_power, wanted_with, wanted_powers}
 use Rattle.cells.specs.Promises.{maximum_power, WithinMaximum}
 use Rattle.cells.proofs.Bounds.{settings_bounds}
@@ -20,7 +19,7 @@ at_330 : W (pos 330) ≡ 1995262314
 unfolding W scaled mantissas
 at_330 = refl
 
-pub largest : (o : Option Settings) → IfSome SettingsInRange o → maximum_power o ≤ 1995262314
+pub largest : (o : Option Settings) → IfSome o SettingsInRange → maximum_power o ≤ 1995262314
 largest None h = omega arith
 largest (Some s) h = omega (arith, monotone s.maximum.tenths (pos 330) (settings_bounds (raw_settings_of s) h).most, at_330)
 

@@ -1,5 +1,5 @@
 -- No loop leaves its limits.
-use Rattle.std.proofs.Common.{◌≡◌, ℕ, ◌*◌, ◌<◌, ◌≤◌, max, false, cond, not, ℤ, pos, negsuc, ◌+ℤ◌, ◌≤ℤ◌, ◌<ℤ◌, Some, None, Option, ap, inl, inr, mul-le-mul, zero-mul, mul-one, arith}
+use Rattle.std.proofs.Common.{IfSome, ◌≡◌, ℕ, ◌*◌, ◌<◌, ◌≤◌, max, false, cond, not, ℤ, pos, negsuc, ◌+ℤ◌, ◌≤ℤ◌, ◌<ℤ◌, Some, None, Option, ap, inl, inr, mul-le-mul, zero-mul, mul-one, arith}
 use Rattle.std.specs.Int.{saturate_to_bits}
 use Rattle.std.proofs.lemmas.Int.{ints, by_lt_z}
 use Rattle.std.proofs.lemmas.Bool.Decides.{nat_tests, leb_tells}
@@ -20,7 +20,7 @@ use Rattle.cells.specs.declared.wants.Want.TheVariants.{Control, Data}
 use Rattle.cells.specs.declared.cell.Cell.{Cell}
 use Rattle.cells.specs.Numbers.{format_number}
 use Rattle.cells.specs.Ranges.{SettingsInRange, raw_settings_of}
-use Rattle.cells.specs.WantRanges.{IfSome, WantInRange, WantsInRange, control_size_fits}
+use Rattle.cells.specs.WantRanges.{WantInRange, WantsInRange, control_size_fits}
 use Rattle.cells.specs.Cells.{InLimits, CellInRange}
 use Rattle.cells.specs.Commands.{step_of, due}
 use Rattle.cells.specs.Powers.{tenths_of, power_of, data_values, data_level, control_level, blocks_or_one, raw_data, raw_control, format_power, offset_or_none, format_tenths}
@@ -91,7 +91,7 @@ none_taken p n e h = omega (arith, ap (λ (x : ℕ). x * n) e, zero-mul n)
 some_taken : (p n : ℕ) → 100 < p * n → 0 < p
 some_taken p n h = elim (leb_tells 1 p) [ inl t ↦ omega (arith, t.1) | inr t ↦ absurd (none_taken p n (omega (arith, t.1)) h) ]
 
-blocks_some : (w : Option DataWant) → IfSome (λ x. WantInRange (Data x)) w → 1 ≤ blocks_or_one w
+blocks_some : (w : Option DataWant) → IfSome w (λ x. WantInRange (Data x)) → 1 ≤ blocks_or_one w
 blocks_some None h = omega arith
 blocks_some (Some w) h = some_block w.blocks h.1.0
 
@@ -145,7 +145,7 @@ record WantBounds (w : Option ControlWant) : Type 0 where
   high : offset_or_none w ≤ℤ pos 6
   most : format_tenths w ≤ 50
 
-want_bounds : (w : Option ControlWant) → IfSome (λ x. WantInRange (Control x)) w → WantBounds w
+want_bounds : (w : Option ControlWant) → IfSome w (λ x. WantInRange (Control x)) → WantBounds w
 want_bounds None h = record { low = omega (arith, ints); high = omega (arith, ints); most = omega arith }
 want_bounds (Some w) h =
     record {
@@ -166,7 +166,7 @@ control_limits s loss g (Some code) w hs hl hg hw =
     let from : negsuc 599 ≤ℤ (control_level s loss g w).tenths = audible l (format_some w (power l) above) in
     omega (arith, ints, hs.control_high, hw.high, hw.most))
 
-limits_of : (o : Option Settings) (k : Cell) (w : CellWants) (n : ℕ) → IfSome SettingsInRange o → CellInRange k → WantsInRange w → CellInRange (moved_with o k w n)
+limits_of : (o : Option Settings) (k : Cell) (w : CellWants) (n : ℕ) → IfSome o SettingsInRange → CellInRange k → WantsInRange w → CellInRange (moved_with o k w n)
 limits_of None k w n ho hk hw = hk
 limits_of (Some s) k w n ho hk hw =
     let bounds = settings_bounds (raw_settings_of s) ho in

@@ -1,5 +1,5 @@
 -- The rule of the loops holds of what they move to.
-use Rattle.std.proofs.Common.{◌≡◌, ℕ, ◌<◌, ◌≤◌, cond, List, ℤ, pos, ◌+ℤ◌, ◌<ℤ◌, Some, None, Option, sym, ap, ◌∙◌, subst, arith}
+use Rattle.std.proofs.Common.{IfSome, ◌≡◌, ℕ, ◌<◌, ◌≤◌, cond, List, ℤ, pos, ◌+ℤ◌, ◌<ℤ◌, Some, None, Option, sym, ap, ◌∙◌, subst, arith}
 use Rattle.std.specs.Int.{saturate_to_bits}
 use Rattle.std.proofs.lemmas.Int.{ints}
 use Rattle.std.proofs.lemmas.Bool.Decides.{nat_tests}
@@ -10,7 +10,6 @@ use Rattle.cells.specs.declared.settings.Settings.{Settings}
 use Rattle.cells.specs.declared.commands.TpcCommand.{TpcCommand}
 use Rattle.cells.specs.declared.wants.CellWants.{CellWants}
 use Rattle.cells.specs.declared.cell.Cell.{Cell}
-use Rattle.cells.specs.WantRanges.{IfSome}
 use Rattle.cells.specs.Cells.{InLimits}
 use Rattle.cells.specs.Commands.{step_of, due, taken}
 use Rattle.cells.specs.Powers.{data_values, raw_data, raw_control}
@@ -70,12 +69,12 @@ rule_of s k w n =
           (takes_step g code raw-g (power s.maximum) h);
     }
 
-rule_with : (o : Option Settings) (k : Cell) (w : CellWants) (n : ℕ) → IfSome (λ s. MovesByCommands s k w n (moved_with o k w n)) o
+rule_with : (o : Option Settings) (k : Cell) (w : CellWants) (n : ℕ) → IfSome o (λ s. MovesByCommands s k w n (moved_with o k w n))
 rule_with None k w n = tt
 rule_with (Some s) k w n = rule_of s k w n
 
-pub moves_by_commands : (k : Cell) (w : CellWants) (n : ℕ) (after : Cell) → after ≡ moved k w n → IfSome (λ s. MovesByCommands s k w n after) k.settings
-moves_by_commands k w n after is = subst (λ (x : Cell). IfSome (λ s. MovesByCommands s k w n x) k.settings) (sym is) (rule_with k.settings k w n)
+pub moves_by_commands : (k : Cell) (w : CellWants) (n : ℕ) (after : Cell) → after ≡ moved k w n → IfSome k.settings (λ s. MovesByCommands s k w n after)
+moves_by_commands k w n after is = subst (λ (x : Cell). IfSome k.settings (λ s. MovesByCommands s k w n x)) (sym is) (rule_with k.settings k w n)
 
 pub moved_at : (k : Cell) (w : CellWants) (n : ℕ) (s : Settings) (f g : ℤ) (fs gs : List (Option TpcCommand)) → k.settings ≡ Some s →
     f ≡ moved_data s k.loss k.data_loop (due k.data_commands n) w.«data» →

@@ -1,10 +1,9 @@
 -- What a terminal keeps of a cell.
-use Rattle.std.specs.Prelude.{ℕ, [], ◌∷◌, ℤ, pos, negsuc, ◌≤ℤ◌, Some, None}
+use Rattle.std.specs.Prelude.{IfSome, ℕ, [], ◌∷◌, ℤ, pos, negsuc, ◌≤ℤ◌, Some, None}
 use Rattle.refusals.specs.First.{NoneHolds}
 use Rattle.cells.specs.declared.settings.Settings.{Settings}
 use Rattle.cells.specs.declared.cell.Cell.{Cell}
 use Rattle.cells.specs.Ranges.{SettingsInRange, loss_conditions}
-use Rattle.cells.specs.WantRanges.{IfSome}
 
 abbrev pub unset_cell : Cell
 unset_cell = record {
@@ -44,7 +43,7 @@ pub record InLimits (v : ℤ) : Type 0 where
 
 -- settings and loss that no call is refused for, and loops within the limits
 pub record CellInRange (k : Cell) : Type 0 where
-  pub of_settings : IfSome SettingsInRange k.settings
+  pub of_settings : IfSome k.settings SettingsInRange
   pub of_loss : NoneHolds (loss_conditions k.loss)
   pub of_data_loop : InLimits k.data_loop
   pub of_control_loop : InLimits k.control_loop

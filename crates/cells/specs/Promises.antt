@@ -1,5 +1,5 @@
 -- What is promised of the powers that a cell wants.
-use Rattle.std.specs.Prelude.{◌≡◌, ℕ, ◌+◌, ◌-◌, ◌*◌, ◌^◌, ◌<◌, ◌≤◌, pos, negsuc, ◌≤ℤ◌, ◌<ℤ◌, Some, None, Option}
+use Rattle.std.specs.Prelude.{IfSome, ◌≡◌, ℕ, ◌+◌, ◌-◌, ◌*◌, ◌^◌, ◌<◌, ◌≤◌, pos, negsuc, ◌≤ℤ◌, ◌<ℤ◌, Some, None, Option}
 use Rattle.levels.specs.declared.Level.{Level}
 use Rattle.levels.specs.Levels.{steps, power}
 use Rattle.cells.specs.declared.settings.Settings.{Settings}
@@ -9,7 +9,7 @@ use Rattle.cells.specs.declared.wants.DataWant.{DataWant}
 use Rattle.cells.specs.declared.wants.Want.TheVariants.{Data}
 use Rattle.cells.specs.declared.cell.Cell.{Cell}
 use Rattle.cells.specs.Ranges.{SettingsInRange}
-use Rattle.cells.specs.WantRanges.{IfSome, WantInRange}
+use Rattle.cells.specs.WantRanges.{WantInRange}
 use Rattle.cells.specs.Powers.{data_values, data_level, raw_data}
 
 -- The exact power of n blocks at a level of d tenths is n × 10^((600 + d) / 100) nanowatts, so its power 100 is n^100 × 10^(600 + d).
@@ -44,4 +44,4 @@ maximum_power (Some s) = power s.maximum
 pub record WithinMaximum (k : Cell) (p : Powers) : Type 0 where
   pub together : p.control + p.«data» ≤ maximum_power k.settings
   pub alone : p.sounding ≤ maximum_power k.settings
-  pub largest : IfSome SettingsInRange k.settings → maximum_power k.settings ≤ 1995262314
+  pub largest : IfSome k.settings SettingsInRange → maximum_power k.settings ≤ 1995262314

@@ -1,5 +1,5 @@
 -- Which wants a call may bring, and what they then stand for.
-use Rattle.std.specs.Prelude.{ℕ, ◌%◌, Bool, true, cond, not, ◌&&◌, ◌||◌, List, [], ◌∷◌, ℤ, pos, negsuc, Some, None, Option, ◌==◌, nat_le, nat_lt, unsigned_abs}
+use Rattle.std.specs.Prelude.{ℕ, ◌%◌, Bool, true, cond, not, ◌&&◌, ◌||◌, List, [], ◌∷◌, ℤ, pos, negsuc, IfSome, ◌==◌, nat_le, nat_lt, unsigned_abs}
 use Rattle.refusals.specs.declared.Refusal.TheVariants.{OutOfRange}
 use Rattle.refusals.specs.declared.Condition.{Condition}
 use Rattle.refusals.specs.First.{when, NoneHolds}
@@ -101,12 +101,7 @@ raw_want_of w = record {
 abbrev pub WantInRange : Want → Type 0
 WantInRange w = NoneHolds (want_conditions (raw_want_of w))
 
--- P of the value, where there is one
-abbrev pub IfSome : {A : Type 0} → (A → Type 0) → Option A → Type 0
-IfSome P None = Unit {0}
-IfSome P (Some x) = P x
-
 pub record WantsInRange (w : CellWants) : Type 0 where
-  pub of_control : IfSome (λ x. WantInRange (Control x)) w.control
-  pub of_data : IfSome (λ x. WantInRange (Data x)) w.«data»
-  pub of_sounding : IfSome (λ x. WantInRange (Sounding x)) w.sounding
+  pub of_control : IfSome w.control (λ x. WantInRange (Control x))
+  pub of_data : IfSome w.«data» (λ x. WantInRange (Data x))
+  pub of_sounding : IfSome w.sounding (λ x. WantInRange (Sounding x))

@@ -1,7 +1,7 @@
 // How the loops of a cell move when a subframe settles.
-ghost use Rattle.std.specs.Prelude.{◌≡◌};
+ghost use Rattle.std.specs.Prelude.{IfSome, ◌≡◌};
 ghost use Rattle.cells.specs.Cells.{CellInRange};
-ghost use Rattle.cells.specs.WantRanges.{IfSome, WantsInRange};
+ghost use Rattle.cells.specs.WantRanges.{WantsInRange};
 ghost use Rattle.cells.specs.Loops.{ignored, with_step, moved_data, moved_control, moved};
 ghost use Rattle.cells.specs.LoopRule.{MovesByCommands};
 
@@ -81,7 +81,7 @@ impl Cell {
     pub fn move_loops(&mut self, wants: CellWants, subframe: u32)
         ensures leaves { self.new ≡ moved self.old wants subframe }
         ensures loop_limits { CellInRange self.old → WantsInRange wants → CellInRange self.new }
-        ensures moves_by_commands { IfSome (λ s. MovesByCommands s self.old wants subframe self.new) self.old.settings }
+        ensures moves_by_commands { IfSome self.old.settings (λ s. MovesByCommands s self.old wants subframe self.new) }
     {
         let Some(settings) = self.settings else {
             return;

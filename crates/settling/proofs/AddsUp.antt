@@ -1,5 +1,5 @@
 -- The powers of the cells of a settled subframe add up to those of the groups.
-use Rattle.std.proofs.Common.{◌≡◌, ℕ, zero, suc, ◌+◌, ◌≤◌, false, not, List, [], ◌∷◌, map, get_or, Some, None, Option, refl, ap, ◌∙◌, arith}
+use Rattle.std.proofs.Common.{IfSome, ◌≡◌, ℕ, zero, suc, ◌+◌, ◌≤◌, false, not, List, [], ◌∷◌, map, get_or, Some, None, Option, refl, ap, ◌∙◌, arith}
 use Rattle.std.specs.List.{AllByRecursion}
 use Rattle.sharing.specs.declared.groups.Group.{Group}
 use Rattle.sharing.specs.declared.groups.Group.TheVariants.{Master, Secondary}
@@ -24,7 +24,7 @@ use Rattle.cells.specs.Cells.{CellInRange}
 use Rattle.cells.specs.Every.{all_wanted, Pairwise}
 use Rattle.cells.specs.Powers.{wanted_with}
 use Rattle.cells.specs.Promises.{WithinMaximum}
-use Rattle.cells.specs.WantRanges.{is_class, WantInRange, IfSome, WantsInRange}
+use Rattle.cells.specs.WantRanges.{is_class, WantInRange, WantsInRange}
 use Rattle.settling.specs.declared.classes.CellDemand.{CellDemand}
 use Rattle.settling.specs.declared.grants.ClassGrants.{ClassGrants}
 use Rattle.settling.specs.Classes.{class_of_control, class_of_data, class_of_sounding, no_wants, no_powers, demand_at}
@@ -79,11 +79,11 @@ data_class ControlInformation h = tt
 data_class DataOnly h = tt
 data_class Sounding h = let z : ◌≡◌ {A = ℕ} 0 1 = cc in absurd (omega arith)
 
-control_ok : (x : Option ControlWant) → IfSome (λ w. WantInRange (ControlCase w)) x → OfControl (class_of_control x)
+control_ok : (x : Option ControlWant) → IfSome x (λ w. WantInRange (ControlCase w)) → OfControl (class_of_control x)
 control_ok None h = tt
 control_ok (Some w) h = control_class w.class h.0
 
-data_ok : (x : Option DataWant) → IfSome (λ w. WantInRange (DataCase w)) x → OfData (class_of_data x)
+data_ok : (x : Option DataWant) → IfSome x (λ w. WantInRange (DataCase w)) → OfData (class_of_data x)
 data_ok None h = tt
 data_ok (Some w) h = data_class w.class h.0
 

@@ -20,7 +20,6 @@ use Rattle.cells.specs.declared.wants.DataWant.{DataWant}
 use Rattle.cells.specs.declared.wants.SoundingWant.{SoundingWant}
 use Rattle.cells.specs.declared.wants.CellWants.{CellWants}
 use Rattle.cells.specs.declared.wants.Want.TheVariants.{Control as ControlCase, Data as DataCase}
-use Rattle.cells.specs.Cells.{CellInRange}
 use Rattle.cells.specs.Every.{all_wanted, Pairwise}
 use Rattle.cells.specs.Powers.{wanted_with}
 use Rattle.cells.specs.Promises.{WithinMaximum}
@@ -31,6 +30,7 @@ use Rattle.settling.specs.Classes.{class_of_control, class_of_data, class_of_sou
 use Rattle.settling.specs.Grants.{granted_at, grants_in}
 use Rattle.settling.specs.Outcomes.{none_made, ranks_of, served_ranks, outcome_of}
 use Rattle.settling.specs.AddUp.{CellsAddUp, Settleable}
+use Rattle.settling.proofs.Bounds.{small_in_range}
 use Rattle.settling.proofs.Adding.{OfControl, OfData, OfSounding, Fine, wanted_adds_up, granted_adds_up}
 
 -- where there is no want there is no power
@@ -95,20 +95,6 @@ in_range_at : (ws : List CellWants) → AllByRecursion WantsInRange ws → (k : 
 in_range_at [] h k = record { of_control = tt; of_data = tt; of_sounding = tt }
 in_range_at (w ∷ ws) h zero = h.0
 in_range_at (w ∷ ws) h (suc k) = in_range_at ws h.1 k
-
--- no power is above 33 dBm
-abbrev Small : Powers → Type 0
-Small p = (p.«data» ≤ 1995262314) × (p.sounding ≤ 1995262314)
-
-small_at : (cs : List Cell) (ps : List Powers) → AllByRecursion CellInRange cs → Pairwise WithinMaximum cs ps → (k : ℕ) → Small (get_or ps k no_powers)
-small_at [] [] r h k = (omega arith, omega arith)
-small_at [] (p ∷ ps) r h k = absurd h
-small_at (c ∷ cs) [] r h k = absurd h
-small_at (c ∷ cs) (p ∷ ps) r h zero =
-    let w = h.0 in
-    let m = w.largest r.0.of_settings in
-    (omega (arith, w.together, m), omega (arith, w.alone, m))
-small_at (c ∷ cs) (p ∷ ps) r h (suc k) = small_at cs ps r.1 h.1 k
 
 -- each rank is granted at most its want, and at most the total
 abbrev want_at : List Rank → ℕ → ℕ
@@ -178,7 +164,7 @@ module _ (rule : ℕ → ℕ → ℕ) (b : Shares) (cs : List Cell) (ws : List C
   fine_at k =
       let s = silent_at cs ws k in
       let r = in_range_at ws ok.of_wants k in
-      let m = small_at cs (all_wanted cs ws) ok.of_cells within k in
+      let m = small_in_range cs (all_wanted cs ws) ok.of_cells within k in
       record {
         no_control = s.0;
         no_data = s.1;
@@ -186,7 +172,7 @@ module _ (rule : ℕ → ℕ → ℕ) (b : Shares) (cs : List Cell) (ws : List C
         of_control = control_ok (get_or ws k no_wants).control r.of_control;
         of_data = data_ok (get_or ws k no_wants).«data» r.of_data;
         of_sounding = sounding_ok (get_or ws k no_wants).sounding;
-        small_data = m.0;
+        small_data = omega (arith, m.0);
         small_sounding = m.1;
       }
 

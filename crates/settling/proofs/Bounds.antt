@@ -14,31 +14,49 @@ use Rattle.cells.specs.declared.cell.Cell.{Cell}
 use Rattle.cells.specs.declared.settings.Settings.{Settings}
 use Rattle.cells.specs.declared.powers.Powers.{Powers}
 use Rattle.cells.specs.declared.wants.CellWants.{CellWants}
+use Rattle.cells.specs.Cells.{CellInRange}
 use Rattle.cells.specs.Every.{Pairwise}
 use Rattle.cells.specs.Promises.{maximum_power, WithinMaximum}
 use Rattle.settling.specs.declared.classes.CellDemand.{CellDemand}
 use Rattle.settling.specs.Classes.{if_class, class_of_control, class_of_data, class_of_sounding, class_want, class_wants, Bounded, no_powers, demand_at, group_cells}
 use Rattle.settling.specs.Outcomes.{none_made}
 
+-- what control and data of a cell come to, and sounding, stays below a bound
+abbrev pub Small : ℕ → Powers → Type 0
+Small top p = (p.control + p.«data» ≤ top) × (p.sounding ≤ top)
+
+-- where no cell's maximum is above the bound
+module _ (top : ℕ) (P : Cell → Type 0) (below : (c : Cell) (p : Powers) → P c → WithinMaximum c p → maximum_power c.settings ≤ top) where
+  small_at : (cs : List Cell) (ps : List Powers) → AllByRecursion P cs → Pairwise WithinMaximum cs ps → (k : ℕ) → Small top (get_or ps k no_powers)
+  small_at [] [] r h k = (omega arith, omega arith)
+  small_at [] (p ∷ ps) r h k = absurd h
+  small_at (c ∷ cs) [] r h k = absurd h
+  small_at (c ∷ cs) (p ∷ ps) r h zero =
+      let w = h.0 in
+      let m = below c p r.0 w in
+      (omega (arith, w.together, m), omega (arith, w.alone, m))
+  small_at (c ∷ cs) (p ∷ ps) r h (suc k) = small_at cs ps r.1 h.1 k
+
+-- 33 dBm, where the settings are in range
+pub small_in_range : (cs : List Cell) (ps : List Powers) → AllByRecursion CellInRange cs → Pairwise WithinMaximum cs ps → (k : ℕ) → Small 1995262314 (get_or ps k no_powers)
+small_in_range = small_at 1995262314 CellInRange (λ c p r w. w.largest r.of_settings)
+
+-- the largest power of all, whatever the settings
 maximum_most : (o : Option Settings) → maximum_power o ≤ 9772372209
 maximum_most None = omega arith
 maximum_most (Some s) = most s.maximum.tenths
 
-abbrev Small : Powers → Type 0
-Small p = (p.control ≤ 9772372209) × (p.«data» ≤ 9772372209) × (p.sounding ≤ 9772372209)
+abbrev MaximumMost : Cell → Type 0
+MaximumMost c = maximum_power c.settings ≤ 9772372209
 
-small_at : (cs : List Cell) (ps : List Powers) → Pairwise WithinMaximum cs ps → (k : ℕ) → Small (get_or ps k no_powers)
-small_at [] [] h k = (omega arith, omega arith, omega arith)
-small_at [] (p ∷ ps) h k = absurd h
-small_at (c ∷ cs) [] h k = absurd h
-small_at (c ∷ cs) (p ∷ ps) h zero =
-    let w = h.0 in
-    let m = maximum_most c.settings in
-    (omega (arith, w.together, m), omega (arith, w.together, m), omega (arith, w.alone, m))
-small_at (c ∷ cs) (p ∷ ps) h (suc k) = small_at cs ps h.1 k
+all_most : (cs : List Cell) → AllByRecursion MaximumMost cs
+all_most [] = tt
+all_most (c ∷ cs) = (maximum_most c.settings, all_most cs)
 
 bounded_at : (cs : List Cell) (ws : List CellWants) (ps : List Powers) → Pairwise WithinMaximum cs ps → (k : ℕ) → Bounded (demand_at ws ps k)
-bounded_at cs ws ps h k = let s = small_at cs ps h k in record { control = s.0; of_data = s.1; sounding = s.2 }
+bounded_at cs ws ps h k =
+    let s = small_at 9772372209 MaximumMost (λ c p m w. m) cs ps (all_most cs) h k in
+    record { control = omega (arith, s.0); of_data = omega (arith, s.0); sounding = s.1 }
 
 pub all_bounded : (X : Group) (cs : List Cell) (ws : List CellWants) (ps : List Powers) → Pairwise WithinMaximum cs ps → AllByRecursion Bounded (group_cells X ws ps)
 all_bounded Master cs ws ps h = (bounded_at cs ws ps h 0, (bounded_at cs ws ps h (0 + 1), (bounded_at cs ws ps h (0 + 2), (bounded_at cs ws ps h (0 + 3), tt))))

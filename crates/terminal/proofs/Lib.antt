@@ -4,3 +4,4 @@ pub mod Most
 pub mod OneMore
 pub mod Settling
 pub mod Performing
+pub mod OfType

@@ -1,39 +1,23 @@
 -- What a group wants and is granted in a subframe is at most 18,000,000,000 nW.
-use Rattle.std.proofs.Common.{◌≡◌, ℕ, zero, suc, ◌+◌, ◌≤◌, List, [], ◌∷◌, length, get_or, arith}
+use Rattle.std.proofs.Common.{◌≡◌, ℕ, List, length, arith}
 use native.Mathlib.Bridge.{le_prop}
 use native.Mathlib.Nat.{ℕ_set}
 use mathlib.Core.Logic.{∥∥₁_elim}
-use Rattle.std.specs.List.{AllByRecursion}
 use Rattle.sharing.specs.declared.groups.Group.TheVariants.{Master, Secondary}
 use Rattle.sharing.specs.declared.groups.Shares.{Shares}
 use Rattle.sharing.specs.Sharing.{reserves_by}
 use Rattle.sharing.proofs.Judged.{within_total}
 use Rattle.cells.specs.declared.cell.Cell.{Cell}
-use Rattle.cells.specs.declared.powers.Powers.{Powers}
 use Rattle.cells.specs.declared.wants.CellWants.{CellWants}
-use Rattle.cells.specs.Cells.{CellInRange}
-use Rattle.cells.specs.Every.{all_wanted, Pairwise}
-use Rattle.cells.specs.Promises.{WithinMaximum}
+use Rattle.cells.specs.Every.{all_wanted}
 use Rattle.cells.proofs.InTurn.{all_within}
-use Rattle.settling.specs.Classes.{no_powers}
 use Rattle.settling.specs.Outcomes.{none_made, ranks_of, served_ranks, outcome_of}
 use Rattle.settling.specs.declared.outcome.GroupPowers.{GroupPowers}
 use Rattle.settling.specs.declared.outcome.Outcome.{Outcome}
 use Rattle.settling.specs.AddUp.{CellsAddUp, Settleable}
 use Rattle.settling.proofs.AddsUp.{cells_add_up}
+use Rattle.settling.proofs.Bounds.{small_in_range}
 use Rattle.terminal.specs.Kept.{SumsWithin}
-
--- no cell wants more than 33 dBm for control and data, and for sounding
-within_at : (cs : List Cell) (ps : List Powers) → AllByRecursion CellInRange cs → Pairwise WithinMaximum cs ps → (k : ℕ) →
-    ((get_or ps k no_powers).control + (get_or ps k no_powers).«data» ≤ 1995262314) × ((get_or ps k no_powers).sounding ≤ 1995262314)
-within_at [] [] r h k = (omega arith, omega arith)
-within_at [] (p ∷ ps) r h k = absurd h
-within_at (c ∷ cs) [] r h k = absurd h
-within_at (c ∷ cs) (p ∷ ps) r h zero =
-    let w = h.0 in
-    let m = w.largest r.0.of_settings in
-    (omega (arith, w.together, m), omega (arith, w.alone, m))
-within_at (c ∷ cs) (p ∷ ps) r h (suc k) = within_at cs ps r.1 h.1 k
 
 module _ (rule : ℕ → ℕ → ℕ) (b : Shares) (cs : List Cell) (ws : List CellWants) (e : length cs ≡ length ws) (ok : Settleable b cs ws) where
   pub groups_most : SumsWithin 1 (outcome_of rule b cs ws).groups
@@ -41,7 +25,7 @@ module _ (rule : ℕ → ℕ → ℕ) (b : Shares) (cs : List Cell) (ws : List C
   groups_most =
       let within = all_within cs ws e in
       let up = (cells_add_up rule b cs ws within ok).adds_wanted in
-      let at = within_at cs (all_wanted cs ws) ok.of_cells within in
+      let at = small_in_range cs (all_wanted cs ws) ok.of_cells within in
       let kept = within_total b.total b.guarantees (reserves_by rule b.guarantees none_made (ranks_of cs ws)) none_made (ranks_of cs ws) (omega arith) in
       let total = ok.of_total in (
         (omega (arith, up Master, at 0, at 1, at 2, at 3), omega (arith, kept, total)),

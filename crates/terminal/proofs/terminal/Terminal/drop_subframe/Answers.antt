@@ -4,7 +4,8 @@ use Rattle.refusals.specs.First.{first_that_holds}
 use Rattle.states.specs.Admission.{refuses_open_ticket}
 use Rattle.states.proofs.Chains.{admitted}
 use Rattle.terminal.proofs.Answering.{refused_call, done_call}
-use Rattle.terminal.proofs.Keeping.{Kept, ended_kept}
+use Rattle.terminal.proofs.OfType.{kept}
+use Rattle.terminal.proofs.Keeping.{ended_kept}
 use Rattle.terminal.proofs.terminal.Terminal.drop_subframe.Goals as goal
 
 pub returns-in_err-admit_open_ticket : goal.returns-in_err-admit_open_ticket
@@ -15,7 +16,7 @@ returns-in_err-admit_open_ticket g c =
 pub invariant_of-self : goal.invariant_of-self
 invariant_of-self g c =
     let t = c.args.self.now in
-    let k : Kept c.args.self.now.state = record { shares = t.shares_kept; cells = t.cells_in_range; loops = t.loop_limits; wants = t.wants_kept; sums = t.sums_within; left = t.subframes_left } in
+    let k = kept t in
     let n = ended_kept _ _ k c.end_subframe.ensures in
     record { shares_kept = n.shares; cells_in_range = n.cells; loop_limits = n.loops; wants_kept = n.wants; sums_within = n.sums; subframes_left = n.left }
 

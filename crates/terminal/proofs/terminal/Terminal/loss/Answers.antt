@@ -6,7 +6,8 @@ use Rattle.states.proofs.Chains.{admitted}
 use Rattle.terminal.proofs.Answering.{refused_call, done_call}
 use Rattle.cells.specs.Cells.{with_loss}
 use Rattle.states.specs.States.{cell_at}
-use Rattle.terminal.proofs.Keeping.{Kept, changed_kept, cell_put, loss_in_range}
+use Rattle.terminal.proofs.OfType.{kept}
+use Rattle.terminal.proofs.Keeping.{changed_kept, cell_put, loss_in_range}
 use Rattle.terminal.proofs.terminal.Terminal.loss.Goals as goal
 
 pub returns-in_err-place : goal.returns-in_err-place
@@ -17,7 +18,7 @@ returns-in_err-place g c =
 pub invariant_of-self : goal.invariant_of-self
 invariant_of-self g c =
     let t = c.args.self.now in
-    let k : Kept c.args.self.now.state = record { shares = t.shares_kept; cells = t.cells_in_range; loops = t.loop_limits; wants = t.wants_kept; sums = t.sums_within; left = t.subframes_left } in
+    let k = kept t in
     let i = c.in_ok-place in
     let n = changed_kept _ _ i.place _ k (λ r. c.set_loss.ensures.in_range r (loss_in_range i.loss i.ensures.in_range.1)) c.put_cell.ensures in
     record { shares_kept = n.shares; cells_in_range = n.cells; loop_limits = n.loops; wants_kept = n.wants; sums_within = n.sums; subframes_left = n.left }

@@ -5,7 +5,8 @@ use Rattle.states.specs.Admission.{refuses_open}
 use Rattle.states.proofs.Chains.{admitted}
 use Rattle.terminal.proofs.Answering.{refused_call, done_call}
 use Rattle.terminal.specs.Tickets.{open_ticket}
-use Rattle.terminal.proofs.Keeping.{Kept, opened_kept}
+use Rattle.terminal.proofs.OfType.{kept}
+use Rattle.terminal.proofs.Keeping.{opened_kept}
 use Rattle.terminal.proofs.terminal.Terminal.open.Goals as goal
 
 pub returns-in_err-admit_open : goal.returns-in_err-admit_open
@@ -16,7 +17,7 @@ returns-in_err-admit_open g c =
 pub invariant_of-self : goal.invariant_of-self
 invariant_of-self g c =
     let t = c.args.self.now in
-    let k : Kept c.args.self.now.state = record { shares = t.shares_kept; cells = t.cells_in_range; loops = t.loop_limits; wants = t.wants_kept; sums = t.sums_within; left = t.subframes_left } in
+    let k = kept t in
     let n = opened_kept _ _ k (admitted (first_that_holds (refuses_open t.state)) _ _ c.in_ok-admit_open.ensures).0 c.open_subframe.ensures in
     record { shares_kept = n.shares; cells_in_range = n.cells; loop_limits = n.loops; wants_kept = n.wants; sums_within = n.sums; subframes_left = n.left }
 

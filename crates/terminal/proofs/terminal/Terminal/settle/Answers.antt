@@ -3,7 +3,8 @@ use Rattle.refusals.specs.First.{first_that_holds}
 use Rattle.states.specs.Admission.{refuses_open_ticket}
 use Rattle.states.proofs.Chains.{admitted}
 use Rattle.terminal.proofs.Answering.{not_refused, left_alone, back_answers, back_exactly, settled_answers, settled_exactly, changed}
-use Rattle.terminal.proofs.Keeping.{Kept, open_for_settle, settleable}
+use Rattle.terminal.proofs.OfType.{kept}
+use Rattle.terminal.proofs.Keeping.{open_for_settle, settleable}
 use Rattle.terminal.proofs.Settling.{left_by, subframe_adds_up}
 use Rattle.terminal.proofs.terminal.Terminal.settle.Goals as goal
 
@@ -23,14 +24,14 @@ returns-in-Err g c =
 pub settle_open-requires : goal.settle_open-requires
 settle_open-requires g c =
     let t = c.args.self.now in
-    let k : Kept c.args.self.now.state = record { shares = t.shares_kept; cells = t.cells_in_range; loops = t.loop_limits; wants = t.wants_kept; sums = t.sums_within; left = t.subframes_left } in
+    let k = kept t in
     let one = open_for_settle t.state c.args.ticket.subframe (admitted _ _ _ c.in_default.ensures).0 in
     record { shares_kept = t.shares_kept; settleable = settleable t.state k; sums_within = t.sums_within; one_left = omega (arith, t.subframes_left, one) }
 
 pub invariant_of-self : goal.invariant_of-self
 invariant_of-self g c =
     let t = c.args.self.now in
-    let k : Kept c.args.self.now.state = record { shares = t.shares_kept; cells = t.cells_in_range; loops = t.loop_limits; wants = t.wants_kept; sums = t.sums_within; left = t.subframes_left } in
+    let k = kept t in
     let one = open_for_settle t.state c.args.ticket.subframe (admitted _ _ _ c.in_default.ensures).0 in
     let n = left_by (g.R.HoldingRule.reserve t.rule) t.state c.settle_open.new.state k one c.settle_open.ensures.most c.settle_open.ensures.leaves in
     record { shares_kept = n.shares; cells_in_range = n.cells; loop_limits = n.loops; wants_kept = n.wants; sums_within = n.sums; subframes_left = n.left }

@@ -5,7 +5,8 @@ use Rattle.states.specs.Admission.{refuses_shares}
 use Rattle.states.proofs.Chains.{admitted}
 use Rattle.terminal.proofs.Answering.{refused_call, done_call}
 use Rattle.states.specs.States.{with_shares}
-use Rattle.terminal.proofs.Keeping.{Kept, shares_put_kept}
+use Rattle.terminal.proofs.OfType.{kept}
+use Rattle.terminal.proofs.Keeping.{shares_put_kept}
 use Rattle.terminal.proofs.terminal.Terminal.shares.Goals as goal
 
 pub returns-in_err-shares : goal.returns-in_err-shares
@@ -16,7 +17,7 @@ returns-in_err-shares g c =
 pub invariant_of-self : goal.invariant_of-self
 invariant_of-self g c =
     let t = c.args.self.now in
-    let k : Kept c.args.self.now.state = record { shares = t.shares_kept; cells = t.cells_in_range; loops = t.loop_limits; wants = t.wants_kept; sums = t.sums_within; left = t.subframes_left } in
+    let k = kept t in
     let n = shares_put_kept _ _ c.in_ok-shares.shares k c.in_ok-shares.ensures.in_range c.put_shares.ensures in
     record { shares_kept = n.shares; cells_in_range = n.cells; loop_limits = n.loops; wants_kept = n.wants; sums_within = n.sums; subframes_left = n.left }
 

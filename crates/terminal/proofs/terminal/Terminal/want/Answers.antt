@@ -4,7 +4,8 @@ use Rattle.refusals.specs.First.{first_that_holds}
 use Rattle.states.specs.Admission.{refuses_want}
 use Rattle.states.proofs.Chains.{admitted}
 use Rattle.terminal.proofs.Answering.{refused_call, done_call}
-use Rattle.terminal.proofs.Keeping.{Kept, open_for_want}
+use Rattle.terminal.proofs.OfType.{kept}
+use Rattle.terminal.proofs.Keeping.{open_for_want}
 use Rattle.terminal.proofs.OneMore.{want_put_kept, want_put}
 use Rattle.terminal.proofs.terminal.Terminal.want.Goals as goal
 
@@ -16,7 +17,7 @@ returns-in_err-place g c =
 pub invariant_of-self : goal.invariant_of-self
 invariant_of-self g c =
     let t = c.args.self.now in
-    let k : Kept c.args.self.now.state = record { shares = t.shares_kept; cells = t.cells_in_range; loops = t.loop_limits; wants = t.wants_kept; sums = t.sums_within; left = t.subframes_left } in
+    let k = kept t in
     let i = c.in_ok-place in
     let a = admitted (first_that_holds (refuses_want t.state c.args.ticket.now.subframe c.args.cell c.args.want)) _ _ i.ensures.answers in
     let one = open_for_want t.state c.args.ticket.now.subframe c.args.cell c.args.want a.0 in

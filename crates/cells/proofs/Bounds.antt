@@ -1,31 +1,30 @@
 -- What a field in its range is bounded by.
-use Rattle.std.proofs.Common.{◌≡◌, ℕ, ◌≤◌, false, not, ltb, List, ℤ, pos, negsuc, ◌≤ℤ◌, None, arith}
+use Rattle.std.proofs.Common.{◌≡◌, ℕ, ◌≤◌, not, ltb, List, ℤ, pos, negsuc, ◌≤ℤ◌, None, Option, arith}
 use Rattle.std.proofs.lemmas.Int.{ints}
 use Rattle.std.proofs.lemmas.Bool.Decides.{nat_tests}
-use Rattle.refusals.specs.declared.Condition.{Condition}
-use Rattle.refusals.specs.First.{first_that_holds, NoneHolds}
+use Rattle.refusals.specs.declared.Refusal.{Refusal}
+use Rattle.refusals.specs.declared.Refusal.TheVariants.{OutOfRange}
+use Rattle.refusals.specs.First.{when, first_that_holds, NoneHolds}
 use Rattle.refusals.proofs.Firsts.{first_stands}
+use Rattle.refusals.proofs.Answered.{not_held}
 use Rattle.cells.specs.declared.settings.RawSettings.{RawSettings}
 use Rattle.cells.specs.Ranges.{outside, is_path_factor, settings_conditions}
 
 -- where nothing is refused, no condition holds
-pub none_holds : (cs : List Condition) → first_that_holds cs ≡ None → NoneHolds cs
+pub none_holds : (cs : List (Option Refusal)) → first_that_holds cs ≡ None → NoneHolds cs
 none_holds cs e = (first_stands cs).nothing e
 
-pub nothing_refused : (cs : List Condition) → NoneHolds cs → first_that_holds cs ≡ None
-nothing_refused cs h = (first_stands cs).passes h
+pub low_end : (low high v : ℤ) → when (outside low high v) OutOfRange ≡ None → low ≤ℤ v
+low_end low high v h = let e = not_held (outside low high v) OutOfRange h in grind (arith, ints)
 
-pub low_end : (low high v : ℤ) → outside low high v ≡ false → low ≤ℤ v
-low_end low high v e = grind (arith, ints)
+pub high_end : (low high v : ℤ) → when (outside low high v) OutOfRange ≡ None → v ≤ℤ high
+high_end low high v h = let e = not_held (outside low high v) OutOfRange h in grind (arith, ints)
 
-pub high_end : (low high v : ℤ) → outside low high v ≡ false → v ≤ℤ high
-high_end low high v e = grind (arith, ints)
+pub at_most : (n top : ℕ) → when (ltb top n) OutOfRange ≡ None → n ≤ top
+at_most n top h = let e = not_held (ltb top n) OutOfRange h in grind (arith, nat_tests)
 
-pub at_most : (n top : ℕ) → ltb top n ≡ false → n ≤ top
-at_most n top e = grind (arith, nat_tests)
-
-pub factor_most : (a : ℕ) → not (is_path_factor a) ≡ false → a ≤ 10
-factor_most a e = grind (arith, nat_tests)
+pub factor_most : (a : ℕ) → when (not (is_path_factor a)) OutOfRange ≡ None → a ≤ 10
+factor_most a h = let e = not_held (not (is_path_factor a)) OutOfRange h in grind (arith, nat_tests)
 
 -- the bounds of settings in range
 pub record SettingsBounds (r : RawSettings) : Type 0 where

@@ -1,8 +1,10 @@
 -- A data want is close below the exact power, on its own and among the wants of a cell.
-use Rattle.std.proofs.Common.{◌≡◌, ℕ, ◌+◌, ◌-◌, ◌*◌, ◌^◌, ◌<◌, ◌≤◌, min, false, ◌||◌, ltb, pos, negsuc, ◌≤ℤ◌, ◌<ℤ◌, Some, None, Option, sym, refl, ap, ◌∙◌, subst, mul_comm, add-mul, mul-le-mul_left, one-mul, zero-mul, mul-one, arith, lit<}
+use Rattle.std.proofs.Common.{◌≡◌, ℕ, ◌+◌, ◌-◌, ◌*◌, ◌^◌, ◌<◌, ◌≤◌, min, ◌||◌, ltb, pos, negsuc, ◌≤ℤ◌, ◌<ℤ◌, Some, None, Option, sym, refl, ap, ◌∙◌, subst, mul_comm, add-mul, mul-le-mul_left, one-mul, zero-mul, mul-one, arith, lit<}
 use native.Mathlib.Nat.{mul-lt-mul_of_pos_left, pow-le-pow_right}
 use Rattle.std.proofs.lemmas.Int.{ints, by_lt_z}
 use Rattle.std.proofs.lemmas.Bool.Decides.{nat_tests}
+use Rattle.refusals.specs.declared.Refusal.TheVariants.{OutOfRange}
+use Rattle.refusals.specs.First.{when}
 use Rattle.levels.specs.declared.Level.{Level}
 use Rattle.levels.specs.Levels.{W, steps, power, Root}
 use Rattle.levels.proofs.Rule.{W_below, W_at_399, in_range_largest, monotone}
@@ -14,10 +16,11 @@ use Rattle.cells.specs.declared.powers.Powers.{Powers}
 use Rattle.cells.specs.declared.cell.Cell.{Cell}
 use Rattle.cells.specs.Powers.{data_values, data_level, data_power, wanted_with, wanted_powers}
 use Rattle.cells.specs.Promises.{Close, CloseBelowExact, DataCloseBelowExact}
+use Rattle.refusals.proofs.Answered.{not_held}
 use Rattle.cells.proofs.Largest.{largest}
 
-pub some_block : (n : ℕ) → (ltb n 1 || ltb 110 n) ≡ false → 1 ≤ n
-some_block n e = grind (arith, nat_tests)
+pub some_block : (n : ℕ) → when (ltb n 1 || ltb 110 n) OutOfRange ≡ None → 1 ≤ n
+some_block n h = let e = not_held (ltb n 1 || ltb 110 n) OutOfRange h in grind (arith, nat_tests)
 
 -- a root of x, taken n times, is close below the exact value
 times : (x m n : ℕ) → 0 < n → Root 100 x m → ((m * n) ^ 100 ≤ n ^ 100 * x) × (n ^ 100 * x < (m * n + n) ^ 100)
@@ -71,10 +74,10 @@ close_of : (o : Option Settings) (d : Option DataWant) (k : Cell) (w : CellWants
 close_of None d k w e = tt
 close_of (Some s) None k w e = tt
 close_of (Some s) (Some x) k w e = λ settings want.
-    let v = data_values s k.data_loop in
+    let v = data_values s k in
     let top = power s.maximum - (wanted_with (Some s) k w).control in
-    close_below_exact (data_level v k.loss) x.blocks top (some_block x.blocks want.1.0) (omega (arith, largest (Some s) settings))
-    (wanted_with (Some s) k w).«data» (ap (data_power v k.loss top) e)
+    close_below_exact (data_level v) x.blocks top (some_block x.blocks want.1.0) (omega (arith, largest (Some s) settings))
+    (wanted_with (Some s) k w).«data» (ap (data_power v top) e)
 
 pub data_close : (k : Cell) (w : CellWants) (p : Powers) → p ≡ wanted_powers k w → DataCloseBelowExact k.settings w.«data» k p
 data_close k w p is = subst (λ (x : Powers). DataCloseBelowExact k.settings w.«data» k x) (sym is) (close_of k.settings w.«data» k w refl)

@@ -1,7 +1,9 @@
 -- One cell after the other.
-use Rattle.std.proofs.Common.{◌≡◌, ℕ, ◌+◌, ◌<◌, ◌≤◌, List, [], ◌∷◌, ◌++◌, length, get_or, take, drop, set, pos, None, refl, ap, append_assoc, append-nil, arith, drop-set-lt}
-use Rattle.std.proofs.lemmas.List.{take_more_set, drop_more, take_all, drop_all}
+use Rattle.std.proofs.Common.{◌≡◌, ℕ, zero, suc, ◌+◌, ◌<◌, List, [], ◌∷◌, length, get_or, pos, None, refl, subst, arith}
 use Rattle.std.specs.List.{AllByRecursion}
+use Rattle.std.specs.Fn.{Called}
+use Rattle.std.specs.Array.{IsFromFnResultFrom}
+use denote.Param.Members.{Mut}
 use Rattle.cells.specs.declared.cell.Cell.{Cell}
 use Rattle.cells.specs.declared.wants.CellWants.{CellWants}
 use Rattle.cells.specs.declared.powers.Powers.{Powers}
@@ -10,7 +12,7 @@ use Rattle.cells.specs.WantRanges.{WantsInRange}
 use Rattle.cells.specs.Loops.{moved}
 use Rattle.cells.specs.Powers.{wanted_powers}
 use Rattle.cells.specs.Promises.{WithinMaximum}
-use Rattle.cells.specs.Every.{all_moved, all_wanted, Pairwise}
+use Rattle.cells.specs.Every.{all_moved, all_wanted, Pairwise, wanted_at}
 use Rattle.cells.proofs.Limits.{moved_in_range}
 use Rattle.cells.proofs.Largest.{within_maximum}
 
@@ -21,53 +23,58 @@ no_cell = record { settings = None; loss = 0; data_loop = pos 0; control_loop = 
 abbrev pub no_wants : CellWants
 no_wants = record { control = None; «data» = None; sounding = None }
 
--- the cells that are moved, and then those that are left to move
-pub moved_so_far : List Cell → List CellWants → ℕ → ℕ → List Cell
-moved_so_far ks ws n i = take i ks ++ all_moved (drop i ks) (drop i ws) n
+abbrev pub no_powers : Powers
+no_powers = record { control = 0; «data» = 0; sounding = 0 }
 
-pub moved_first : (ks : List Cell) (ws : List CellWants) (n : ℕ) → moved_so_far ks ws n 0 ≡ all_moved ks ws n
-unfolding moved_so_far
-moved_first ks ws n = refl
-
-pub moved_last : (ks : List Cell) (ws : List CellWants) (n i : ℕ) → length ks ≤ i → moved_so_far ks ws n i ≡ ks
-unfolding moved_so_far all_moved
-moved_last ks ws n i h = rw (take_all i ks h, drop_all i ks h) (append-nil ks)
-
-pub moved_more : (ks : List Cell) (ws : List CellWants) (n i : ℕ) (k : Cell) → i < length ks → i < length ws → k ≡ moved (get_or ks i no_cell) (get_or ws i no_wants) n → moved_so_far (set ks i k) ws n (i + 1) ≡ moved_so_far ks ws n i
-unfolding moved_so_far all_moved
-moved_more ks ws n i k h g e =
-    let past : i < i + 1 = omega arith in
-    let done = take_more_set ks i k h in
-    let left = drop-set-lt (i + 1) ks i k past in
-    let cells = drop_more ks i no_cell h in
-    let wants = drop_more ws i no_wants g in
-    rw (done, left, cells, wants, append_assoc) (ap (λ (x : Cell). take i ks ++ (x ∷ all_moved (drop (i + 1) ks) (drop (i + 1) ws) n)) e)
+-- cells that are each moved with their own wants
+pub moved_each : (after ks : List Cell) (ws : List CellWants) (n : ℕ) → length after ≡ length ks → length ws ≡ length ks →
+    ((i : ℕ) → i < length ks → get_or after i no_cell ≡ moved (get_or ks i no_cell) (get_or ws i no_wants) n) → after ≡ all_moved ks ws n
+unfolding all_moved
+moved_each [] [] ws n p w each = refl
+moved_each (x ∷ after) [] ws n p w each = absurd (omega arith)
+moved_each after (k ∷ ks) [] n p w each = absurd (omega arith)
+moved_each [] (k ∷ ks) (x ∷ ws) n p w each = absurd (omega arith)
+moved_each (y ∷ after) (k ∷ ks) (x ∷ ws) n p w each =
+    let first : y ≡ moved k x n = each 0 (omega arith) in
+    let rest : after ≡ all_moved ks ws n = moved_each after ks ws n (omega arith) (omega arith) (λ i h. each (suc i) (omega arith)) in
+    cc
 
 pub all_in_range : (ks : List Cell) (ws : List CellWants) (n : ℕ) → AllByRecursion CellInRange ks → AllByRecursion WantsInRange ws → AllByRecursion CellInRange (all_moved ks ws n)
 unfolding all_moved
 all_in_range [] ws n hk hw = tt
 all_in_range (k ∷ ks) [] n hk hw = hk
-all_in_range (k ∷ ks) (w ∷ ws) n hk hw = (moved_in_range k w n hk.0 hw.0, all_in_range ks ws n hk.1 hw.1)
+all_in_range (k ∷ ks) (w ∷ ws) n hk hw = (moved_in_range k w n (moved k w n) refl hk.0 hw.0, all_in_range ks ws n hk.1 hw.1)
 
--- the powers that are known, and then those that are left to work out
-pub wanted_so_far : List Powers → List Cell → List CellWants → ℕ → List Powers
-wanted_so_far ps ks ws i = take i ps ++ all_wanted (drop i ks) (drop i ws)
+-- powers that are each what their own cell wants
+pub wanted_each : (ps : List Powers) (ks : List Cell) (ws : List CellWants) → length ps ≡ length ks → length ws ≡ length ks →
+    ((i : ℕ) → i < length ks → get_or ps i no_powers ≡ wanted_at ks ws i) → ps ≡ all_wanted ks ws
+unfolding all_wanted
+wanted_each [] [] ws p w each = refl
+wanted_each (p ∷ ps) [] ws e w each = absurd (omega arith)
+wanted_each ps (k ∷ ks) [] e w each = absurd (omega arith)
+wanted_each [] (k ∷ ks) (x ∷ ws) e w each = absurd (omega arith)
+wanted_each (p ∷ ps) (k ∷ ks) (x ∷ ws) e w each =
+    let first : p ≡ wanted_powers k x = each 0 (omega arith) in
+    let rest : ps ≡ all_wanted ks ws = wanted_each ps ks ws (omega arith) (omega arith) (λ i h. each (suc i) (omega arith)) in
+    cc
 
-pub wanted_first : (ps : List Powers) (ks : List Cell) (ws : List CellWants) → wanted_so_far ps ks ws 0 ≡ all_wanted ks ws
-unfolding wanted_so_far
-wanted_first ps ks ws = refl
+-- a call of a closure that no call changes
+first_call : {F B : Type 0} (g : Mut F (ℕ × Unit {0}) B) (f : F) (P : ℕ → B → Type 0) → ((i : ℕ) (y : B) (q : F) → Called g f (i, tt) y q → P i y × (q ≡ f)) →
+    (a : ℕ) (p : F) → p ≡ f → (q : F) (y : B) → Called g p (a, tt) y q → P a y × (q ≡ f)
+first_call {F} g f P calls a p is q y k = calls a y q (subst (λ (r : F). Called g r (a, tt) y q) is k)
 
-pub wanted_last : (ps : List Powers) (ks : List Cell) (ws : List CellWants) (i : ℕ) → length ps ≤ i → length ks ≤ i → wanted_so_far ps ks ws i ≡ ps
-unfolding wanted_so_far all_wanted
-wanted_last ps ks ws i h g = rw (take_all i ps h, drop_all i ks g) (append-nil ps)
-
-pub wanted_more : (ps : List Powers) (ks : List Cell) (ws : List CellWants) (i : ℕ) (p : Powers) → i < length ps → i < length ks → i < length ws → p ≡ wanted_powers (get_or ks i no_cell) (get_or ws i no_wants) → wanted_so_far (set ps i p) ks ws (i + 1) ≡ wanted_so_far ps ks ws i
-unfolding wanted_so_far all_wanted
-wanted_more ps ks ws i p h g f e =
-    let done = take_more_set ps i p h in
-    let cells = drop_more ks i no_cell g in
-    let wants = drop_more ws i no_wants f in
-    rw (done, cells, wants, append_assoc) (ap (λ (x : Powers). take i ps ++ (x ∷ all_wanted (drop (i + 1) ks) (drop (i + 1) ws))) e)
+-- an element of an array that a closure made is what a call of it gave, where no call changes the closure
+pub made_at : {F B : Type 0} (g : Mut F (ℕ × Unit {0}) B) (f : F) (P : ℕ → B → Type 0) (ys : List B) (d : B) →
+    ((i : ℕ) (y : B) (q : F) → Called g f (i, tt) y q → P i y × (q ≡ f)) → (n a : ℕ) (p : F) → p ≡ f → IsFromFnResultFrom g p ys a n →
+    (k j : ℕ) → j ≡ a + k → k < n → P j (get_or ys j d)
+made_at g f P ys d calls zero a p is made k j e h = absurd (omega arith)
+made_at g f P ys d calls (suc n) a p is made zero j e h =
+    let same : j ≡ a = omega arith in
+    let element = made.2.1 d in
+    rw (same, element) (first_call g f P calls a p is made.0 made.1 made.3).0
+made_at g f P ys d calls (suc n) a p is made (suc k) j e h =
+    let first = first_call g f P calls a p is made.0 made.1 made.3 in
+    made_at g f P ys d calls n (a + 1) made.0 first.1 made.4 k j (omega arith) (omega arith)
 
 pub all_within : (ks : List Cell) (ws : List CellWants) → length ks ≡ length ws → Pairwise WithinMaximum ks (all_wanted ks ws)
 unfolding all_wanted

@@ -1,8 +1,10 @@
 -- No loop leaves its limits.
-use Rattle.std.proofs.Common.{IfSome, ◌≡◌, ℕ, ◌*◌, ◌<◌, ◌≤◌, max, false, cond, not, ℤ, pos, negsuc, ◌+ℤ◌, ◌≤ℤ◌, ◌<ℤ◌, Some, None, Option, ap, inl, inr, mul-le-mul, zero-mul, mul-one, arith}
+use Rattle.std.proofs.Common.{IfSome, ◌≡◌, ℕ, ◌*◌, ◌<◌, ◌≤◌, max, cond, not, ℤ, pos, negsuc, ◌+ℤ◌, ◌≤ℤ◌, ◌<ℤ◌, Some, None, Option, sym, ap, subst, inl, inr, mul-le-mul, zero-mul, mul-one, arith}
 use Rattle.std.specs.Int.{saturate_to_bits}
 use Rattle.std.proofs.lemmas.Int.{ints, by_lt_z}
 use Rattle.std.proofs.lemmas.Bool.Decides.{nat_tests, leb_tells}
+use Rattle.refusals.specs.declared.Refusal.TheVariants.{OutOfRange}
+use Rattle.refusals.specs.First.{when}
 use Rattle.levels.specs.declared.Level.{Level}
 use Rattle.levels.specs.Levels.{power}
 use Rattle.levels.proofs.Rule.{W_below, monotone}
@@ -23,8 +25,9 @@ use Rattle.cells.specs.Ranges.{SettingsInRange, raw_settings_of}
 use Rattle.cells.specs.WantRanges.{WantInRange, WantsInRange, control_size_fits}
 use Rattle.cells.specs.Cells.{InLimits, CellInRange}
 use Rattle.cells.specs.Commands.{step_of, due}
-use Rattle.cells.specs.Powers.{tenths_of, power_of, data_values, data_level, control_level, blocks_or_one, raw_data, raw_control, format_power, offset_or_none, format_tenths}
-use Rattle.cells.specs.Loops.{ignored, with_step, commanded_data, moved_data, moved_control, moved_with, moved}
+use Rattle.cells.specs.Powers.{tenths_of, power_of, data_values, control_values, data_level, control_level, blocks_or_one, raw_data, raw_control, format_power, offset_or_none, format_tenths}
+use Rattle.cells.specs.Loops.{ignored, with_step, moved_loop, moved_data, moved_control, moved_with, moved}
+use Rattle.refusals.proofs.Answered.{not_held}
 use Rattle.cells.proofs.Bounds.{SettingsBounds, settings_bounds, at_most, low_end, high_end}
 use Rattle.cells.proofs.Exact.{some_block}
 
@@ -74,6 +77,12 @@ step_limits v code raw most h up down =
       high = high_of_sum v by (saturate_to_bits 15 (v +ℤ by)) raw most sum highest h.high up;
     }
 
+-- whatever the kind, and with no command
+loop_limits : (kind : LoopKind) (v : ℤ) (command : Option TpcCommand) (raw most : ℕ) → InLimits v → (raw < most → v ≤ℤ pos 197) → (100 < raw → negsuc 298 ≤ℤ v) → InLimits (moved_loop kind v command raw most)
+loop_limits kind v None raw most h up down = h
+loop_limits Absolute v (Some code) raw most h up down = absolute_limits code
+loop_limits Accumulating v (Some code) raw most h up down = step_limits v code raw most h up down
+
 -- a power above 0 stands at -60 dBm or above, and the lower power at the lower level
 audible : (l : Level) → 0 < power l → negsuc 599 ≤ℤ l.tenths
 audible l h = by_lt_z l.tenths (negsuc 599) (λ k. absurd (omega (arith, W_below l.tenths k))) (λ k. k)
@@ -95,22 +104,17 @@ blocks_some : (w : Option DataWant) → IfSome w (λ x. WantInRange (Data x)) �
 blocks_some None h = omega arith
 blocks_some (Some w) h = some_block w.blocks h.1.0
 
-commanded_limits : (k : LoopKind) (s : Settings) (loss : ℕ) (f : ℤ) (code : TpcCommand) (w : Option DataWant) → SettingsBounds (raw_settings_of s) → loss ≤ 200 → InLimits f → 1 ≤ blocks_or_one w → InLimits (commanded_data k s loss f code w)
-commanded_limits Absolute s loss f code w hs hl hf some = absolute_limits code
-commanded_limits Accumulating s loss f code w hs hl hf some =
-    let l = data_level (data_values s f) loss in
-    let product : s.path_factor * loss ≤ 2000 = mul-le-mul hs.factor hl in
-    step_limits f code (raw_data (data_values s f) loss w) (power s.maximum) hf
+data_limits : (s : Settings) (k : Cell) (command : Option TpcCommand) (w : Option DataWant) → SettingsBounds (raw_settings_of s) → k.loss ≤ 200 → InLimits k.data_loop → 1 ≤ blocks_or_one w → InLimits (moved_data s k command w)
+data_limits s k command w hs hl hf some =
+    let l = data_level (data_values s k) in
+    let product : s.path_factor * k.loss ≤ 2000 = mul-le-mul hs.factor hl in
+    loop_limits s.loop_kind k.data_loop command (raw_data (data_values s k) w) (power s.maximum) hf
     (λ below.
-    let under : (data_level (data_values s f) loss).tenths <ℤ s.maximum.tenths = lower_level l s.maximum (omega (arith, taken_once (power l) (blocks_or_one w) some)) in
+    let under : (data_level (data_values s k)).tenths <ℤ s.maximum.tenths = lower_level l s.maximum (omega (arith, taken_once (power l) (blocks_or_one w) some)) in
     omega (arith, ints, hs.data_low, hs.most))
     (λ above.
-    let from : negsuc 599 ≤ℤ (data_level (data_values s f) loss).tenths = audible l (some_taken (power l) (blocks_or_one w) above) in
+    let from : negsuc 599 ≤ℤ (data_level (data_values s k)).tenths = audible l (some_taken (power l) (blocks_or_one w) above) in
     omega (arith, ints, hs.data_high))
-
-data_limits : (s : Settings) (loss : ℕ) (f : ℤ) (command : Option TpcCommand) (w : Option DataWant) → SettingsBounds (raw_settings_of s) → loss ≤ 200 → InLimits f → 1 ≤ blocks_or_one w → InLimits (moved_data s loss f command w)
-data_limits s loss f None w hs hl hf some = hf
-data_limits s loss f (Some code) w hs hl hf some = commanded_limits s.loop_kind s loss f code w hs hl hf some
 
 -- format 2 makes no power less, and none of nothing
 format_least_of : (f : ControlFormat) (n p : ℕ) → p ≤ power_of f n p
@@ -131,10 +135,10 @@ format_some : (w : Option ControlWant) (p : ℕ) → 100 < format_power w p → 
 format_some None p h = omega arith
 format_some (Some w) p h = format_some_of w.format w.size p h
 
-three_most : (n : ℕ) → not (control_size_fits 3 n) ≡ false → n ≤ 11
-three_most n e = grind (arith, nat_tests)
+three_most : (n : ℕ) → when (not (control_size_fits 3 n)) OutOfRange ≡ None → n ≤ 11
+three_most n h = let e = not_held (not (control_size_fits 3 n)) OutOfRange h in grind (arith, nat_tests)
 
-tenths_most : (f : ControlFormat) (n : ℕ) → not (control_size_fits (format_number f) n) ≡ false → tenths_of f n ≤ 50
+tenths_most : (f : ControlFormat) (n : ℕ) → when (not (control_size_fits (format_number f) n)) OutOfRange ≡ None → tenths_of f n ≤ 50
 tenths_most Format1 n h = omega arith
 tenths_most Format2 n h = omega arith
 tenths_most Format3 n h = omega (arith, three_most n h)
@@ -154,16 +158,15 @@ want_bounds (Some w) h =
       most = tenths_most w.format w.size h.1.0;
     }
 
-control_limits : (s : Settings) (loss : ℕ) (g : ℤ) (command : Option TpcCommand) (w : Option ControlWant) → SettingsBounds (raw_settings_of s) → loss ≤ 200 → InLimits g → WantBounds w → InLimits (moved_control s loss g command w)
-control_limits s loss g None w hs hl hg hw = hg
-control_limits s loss g (Some code) w hs hl hg hw =
-    let l = control_level s loss g w in
-    step_limits g code (raw_control s loss g w) (power s.maximum) hg
+control_limits : (s : Settings) (k : Cell) (command : Option TpcCommand) (w : Option ControlWant) → SettingsBounds (raw_settings_of s) → k.loss ≤ 200 → InLimits k.control_loop → WantBounds w → InLimits (moved_control s k command w)
+control_limits s k command w hs hl hg hw =
+    let l = control_level (control_values s k) w in
+    loop_limits Accumulating k.control_loop command (raw_control (control_values s k) w) (power s.maximum) hg
     (λ below.
-    let under : (control_level s loss g w).tenths <ℤ s.maximum.tenths = lower_level l s.maximum (omega (arith, format_least w (power l))) in
+    let under : (control_level (control_values s k) w).tenths <ℤ s.maximum.tenths = lower_level l s.maximum (omega (arith, format_least w (power l))) in
     omega (arith, ints, hs.control_low, hs.most, hw.low))
     (λ above.
-    let from : negsuc 599 ≤ℤ (control_level s loss g w).tenths = audible l (format_some w (power l) above) in
+    let from : negsuc 599 ≤ℤ (control_level (control_values s k) w).tenths = audible l (format_some w (power l) above) in
     omega (arith, ints, hs.control_high, hw.high, hw.most))
 
 limits_of : (o : Option Settings) (k : Cell) (w : CellWants) (n : ℕ) → IfSome o SettingsInRange → CellInRange k → WantsInRange w → CellInRange (moved_with o k w n)
@@ -174,9 +177,9 @@ limits_of (Some s) k w n ho hk hw =
     record {
       of_settings = hk.of_settings;
       of_loss = hk.of_loss;
-      of_data_loop = data_limits s k.loss k.data_loop (due k.data_commands n) w.«data» bounds loss hk.of_data_loop (blocks_some w.«data» hw.of_data);
-      of_control_loop = control_limits s k.loss k.control_loop (due k.control_commands n) w.control bounds loss hk.of_control_loop (want_bounds w.control hw.of_control);
+      of_data_loop = data_limits s k (due k.data_commands n) w.«data» bounds loss hk.of_data_loop (blocks_some w.«data» hw.of_data);
+      of_control_loop = control_limits s k (due k.control_commands n) w.control bounds loss hk.of_control_loop (want_bounds w.control hw.of_control);
     }
 
-pub moved_in_range : (k : Cell) (w : CellWants) (n : ℕ) → CellInRange k → WantsInRange w → CellInRange (moved k w n)
-moved_in_range k w n hk hw = limits_of k.settings k w n hk.of_settings hk hw
+pub moved_in_range : (k : Cell) (w : CellWants) (n : ℕ) (after : Cell) → after ≡ moved k w n → CellInRange k → WantsInRange w → CellInRange after
+moved_in_range k w n after is hk hw = subst CellInRange (sym is) (limits_of k.settings k w n hk.of_settings hk hw)

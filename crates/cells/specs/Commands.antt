@@ -1,7 +1,7 @@
 -- The steps of commands, and the subframes that they wait for.
 use Rattle.std.specs.Prelude.{◌≡◌, ℕ, ◌+◌, ◌%◌, ◌<◌, ◌≤◌, List, [], ◌∷◌, ℤ, pos, negsuc, is_some, Some, None, Option, slice_index_or, slice_set}
 use Rattle.refusals.specs.declared.Refusal.TheVariants.{GivenAlready}
-use Rattle.refusals.specs.declared.Condition.{Condition}
+use Rattle.refusals.specs.declared.Refusal.{Refusal}
 use Rattle.refusals.specs.First.{when}
 use Rattle.cells.specs.declared.settings.LoopKind.{LoopKind}
 use Rattle.cells.specs.declared.settings.LoopKind.TheVariants.{Accumulating, Absolute}
@@ -36,7 +36,7 @@ abbrev pub put : List (Option TpcCommand) → ℕ → TpcCommand → List (Optio
 put places n code = slice_set places (place_for n) (Some code)
 
 -- at most one command waits for a subframe
-abbrev pub places_conditions : List (Option TpcCommand) → ℕ → List Condition
+abbrev pub places_conditions : List (Option TpcCommand) → ℕ → List (Option Refusal)
 places_conditions places n = when (is_some (due places n)) GivenAlready ∷ []
 
 -- a command waits in these places for the subframe n, and what waits for the four before is as it was

@@ -8,7 +8,7 @@ use Rattle.cells.specs.declared.wants.CellWants.{CellWants}
 use Rattle.cells.specs.declared.cell.Cell.{Cell}
 use Rattle.cells.specs.Cells.{InLimits}
 use Rattle.cells.specs.Commands.{step_of, due}
-use Rattle.cells.specs.Powers.{data_values, raw_data, raw_control}
+use Rattle.cells.specs.Powers.{data_values, control_values, raw_data, raw_control}
 
 -- A loop takes a step, where `raw` is the power at its old value and `most` that of the cell's maximum: the plain sum, with two exceptions.
 pub record TakesStep (raw most : ℕ) (by before after : ℤ) : Type 0 where
@@ -23,7 +23,7 @@ pub record MovesByCommands (s : Settings) (k : Cell) (w : CellWants) (n : ℕ) (
   pub data_stands : due k.data_commands n ≡ None → after.data_loop ≡ k.data_loop
   pub data_replaced : (code : TpcCommand) → due k.data_commands n ≡ Some code → s.loop_kind ≡ Absolute → after.data_loop ≡ step_of Absolute code
   pub data_steps : (code : TpcCommand) → due k.data_commands n ≡ Some code → s.loop_kind ≡ Accumulating → InLimits k.data_loop →
-      TakesStep (raw_data (data_values s k.data_loop) k.loss w.«data») (power s.maximum) (step_of Accumulating code) k.data_loop after.data_loop
+      TakesStep (raw_data (data_values s k) w.«data») (power s.maximum) (step_of Accumulating code) k.data_loop after.data_loop
   pub control_stands : due k.control_commands n ≡ None → after.control_loop ≡ k.control_loop
   pub control_steps : (code : TpcCommand) → due k.control_commands n ≡ Some code → InLimits k.control_loop →
-      TakesStep (raw_control s k.loss k.control_loop w.control) (power s.maximum) (step_of Accumulating code) k.control_loop after.control_loop
+      TakesStep (raw_control (control_values s k) w.control) (power s.maximum) (step_of Accumulating code) k.control_loop after.control_loop

@@ -11,7 +11,7 @@ use Rattle.cells.specs.declared.wants.DataWant.{DataWant}
 use Rattle.cells.specs.declared.wants.CellWants.{CellWants}
 use Rattle.cells.specs.declared.cell.Cell.{Cell}
 use Rattle.cells.specs.Commands.{step_of, due, taken}
-use Rattle.cells.specs.Powers.{data_values, raw_data, raw_control}
+use Rattle.cells.specs.Powers.{data_values, control_values, raw_data, raw_control}
 
 -- a step up is ignored where the power is at the maximum or above, a step down where it is 100 nW or less
 abbrev pub ignored : ℤ → (raw most : ℕ) → Bool
@@ -21,20 +21,22 @@ ignored by raw most = (int_lt (pos 0) by && nat_le most raw) || (int_lt by (pos 
 abbrev pub with_step : ℤ → ℤ → (raw most : ℕ) → ℤ
 with_step before by raw most = cond (ignored by raw most) before (saturate_to_bits 15 (before +ℤ by))
 
--- the data loop f after a command: in an absolute cell the step itself, else f with the step, judged by the power at f
-abbrev pub commanded_data : LoopKind → Settings → ℕ → ℤ → TpcCommand → Option DataWant → ℤ
-commanded_data Absolute s loss f code w = step_of Absolute code
-commanded_data Accumulating s loss f code w = with_step f (step_of Accumulating code) (raw_data (data_values s f) loss w) (power s.maximum)
+-- a loop after a command: where steps are absolute the step itself, else the loop with the step
+abbrev pub commanded : LoopKind → ℤ → TpcCommand → (raw most : ℕ) → ℤ
+commanded Absolute before code raw most = step_of Absolute code
+commanded Accumulating before code raw most = with_step before (step_of Accumulating code) raw most
 
 -- with no command due a loop stands
-abbrev pub moved_data : Settings → ℕ → ℤ → Option TpcCommand → Option DataWant → ℤ
-moved_data s loss f None w = f
-moved_data s loss f (Some code) w = commanded_data s.loop_kind s loss f code w
+abbrev pub moved_loop : LoopKind → ℤ → Option TpcCommand → (raw most : ℕ) → ℤ
+moved_loop kind before None raw most = before
+moved_loop kind before (Some code) raw most = commanded kind before code raw most
 
--- the control loop g always adds its steps, judged by the power at g
-abbrev pub moved_control : Settings → ℕ → ℤ → Option TpcCommand → Option ControlWant → ℤ
-moved_control s loss g None w = g
-moved_control s loss g (Some code) w = with_step g (step_of Accumulating code) (raw_control s loss g w) (power s.maximum)
+-- the data loop by the kind of the cell, judged by the power at its old value; the control loop always adds its steps
+abbrev pub moved_data : Settings → Cell → Option TpcCommand → Option DataWant → ℤ
+moved_data s k command w = moved_loop s.loop_kind k.data_loop command (raw_data (data_values s k) w) (power s.maximum)
+
+abbrev pub moved_control : Settings → Cell → Option TpcCommand → Option ControlWant → ℤ
+moved_control s k command w = moved_loop Accumulating k.control_loop command (raw_control (control_values s k) w) (power s.maximum)
 
 -- the cell with these loops, and the commands for the subframe n taken
 abbrev pub with_loops : Cell → ℕ → ℤ → ℤ → Cell
@@ -51,8 +53,8 @@ abbrev pub moved_with : Option Settings → Cell → CellWants → ℕ → Cell
 moved_with None k w n = k
 moved_with (Some s) k w n =
     with_loops k n
-    (moved_data s k.loss k.data_loop (due k.data_commands n) w.«data»)
-    (moved_control s k.loss k.control_loop (due k.control_commands n) w.control)
+    (moved_data s k (due k.data_commands n) w.«data»)
+    (moved_control s k (due k.control_commands n) w.control)
 
 -- a cell after the subframe n: its loops moved by the commands for n, and these taken
 abbrev pub moved : Cell → CellWants → ℕ → Cell

@@ -5,6 +5,7 @@ use Rattle.levels.specs.declared.Level.{Level}
 use Rattle.levels.specs.Levels.{level_of, power}
 use Rattle.cells.specs.declared.settings.Settings.{Settings}
 use Rattle.cells.specs.declared.powers.DataValues.{DataValues}
+use Rattle.cells.specs.declared.powers.ControlValues.{ControlValues}
 use Rattle.cells.specs.declared.powers.Powers.{Powers}
 use Rattle.cells.specs.declared.wants.ControlFormat.{ControlFormat}
 use Rattle.cells.specs.declared.wants.ControlFormat.TheVariants.{Format1, Format2, Format3}
@@ -14,24 +15,27 @@ use Rattle.cells.specs.declared.wants.SoundingWant.{SoundingWant}
 use Rattle.cells.specs.declared.wants.CellWants.{CellWants}
 use Rattle.cells.specs.declared.cell.Cell.{Cell}
 
--- the data values of a cell whose data loop is f
-abbrev pub data_values : Settings → ℤ → DataValues
-data_values s f = record { base = s.data_base; factor = s.path_factor; adjustment = f }
+-- what the levels of a cell are made from: its settings, its loss and its loops as they stand
+abbrev pub data_values : Settings → Cell → DataValues
+data_values s k = record { base = s.data_base; factor = s.path_factor; loss = k.loss; adjustment = k.data_loop }
+
+abbrev pub control_values : Settings → Cell → ControlValues
+control_values s k = record { base = s.control_base; loss = k.loss; adjustment = k.control_loop }
 
 -- data: base and loop in decibels, and the path factor times the loss in tenths
-abbrev pub data_level : DataValues → ℕ → Level
-data_level v loss = level_of (v.base +ℤ v.adjustment) (pos (v.factor * loss))
+abbrev pub data_level : DataValues → Level
+data_level v = level_of (v.base +ℤ v.adjustment) (pos (v.factor * v.loss))
 
 -- sounding: the data level and an offset, which is -10.5 dB at index 0 and rises by 1.5 dB with each
 abbrev pub sounding_offset : ℕ → ℤ
 sounding_offset index = negsuc 104 +ℤ pos (15 * index)
 
-abbrev pub sounding_level : DataValues → ℕ → ℕ → Level
-sounding_level v loss index = level_of (pos 0) ((data_level v loss).tenths +ℤ sounding_offset index)
+abbrev pub sounding_level : DataValues → ℕ → Level
+sounding_level v index = level_of (pos 0) ((data_level v).tenths +ℤ sounding_offset index)
 
 -- control: base, loss and loop, with the want's offset, and what its format adds
-abbrev pub open_loop_decibels : Settings → ℕ → ℤ → ℤ
-open_loop_decibels s loss g = s.control_base +ℤ pos loss +ℤ g
+abbrev pub open_loop_decibels : ControlValues → ℤ
+open_loop_decibels v = v.base +ℤ pos v.loss +ℤ v.adjustment
 
 abbrev pub offset_or_none : Option ControlWant → ℤ
 offset_or_none None = pos 0
@@ -47,8 +51,8 @@ abbrev pub format_tenths : Option ControlWant → ℕ
 format_tenths None = 0
 format_tenths (Some w) = tenths_of w.format w.size
 
-abbrev pub control_level : Settings → ℕ → ℤ → Option ControlWant → Level
-control_level s loss g w = level_of (open_loop_decibels s loss g +ℤ offset_or_none w) (pos (format_tenths w))
+abbrev pub control_level : ControlValues → Option ControlWant → Level
+control_level v w = level_of (open_loop_decibels v +ℤ offset_or_none w) (pos (format_tenths w))
 
 -- format 2 multiplies the power by a quarter of its size, and by one at least
 abbrev pub power_of : ControlFormat → ℕ → ℕ → ℕ
@@ -65,39 +69,39 @@ blocks_or_one None = 1
 blocks_or_one (Some w) = w.blocks
 
 -- Powers before the cap. A channel with no want is taken at one block, or with no offset and no format.
-abbrev pub raw_data : DataValues → ℕ → Option DataWant → ℕ
-raw_data v loss w = power (data_level v loss) * blocks_or_one w
+abbrev pub raw_data : DataValues → Option DataWant → ℕ
+raw_data v w = power (data_level v) * blocks_or_one w
 
-abbrev pub raw_control : Settings → ℕ → ℤ → Option ControlWant → ℕ
-raw_control s loss g w = format_power w (power (control_level s loss g w))
+abbrev pub raw_control : ControlValues → Option ControlWant → ℕ
+raw_control v w = format_power w (power (control_level v w))
 
-abbrev pub raw_sounding : DataValues → ℕ → SoundingWant → ℕ
-raw_sounding v loss w = power (sounding_level v loss w.offset) * w.blocks
+abbrev pub raw_sounding : DataValues → SoundingWant → ℕ
+raw_sounding v w = power (sounding_level v w.offset) * w.blocks
 
 -- what is wanted: nothing without a want, and no more than the cap
-abbrev pub control_power : Settings → ℕ → ℤ → Option ControlWant → ℕ
-control_power s loss g None = 0
-control_power s loss g (Some w) = min (raw_control s loss g (Some w)) (power s.maximum)
+abbrev pub control_power : ControlValues → ℕ → Option ControlWant → ℕ
+control_power v top None = 0
+control_power v top (Some w) = min (raw_control v (Some w)) top
 
-abbrev pub data_power : DataValues → ℕ → ℕ → Option DataWant → ℕ
-data_power v loss top None = 0
-data_power v loss top (Some w) = min (raw_data v loss (Some w)) top
+abbrev pub data_power : DataValues → ℕ → Option DataWant → ℕ
+data_power v top None = 0
+data_power v top (Some w) = min (raw_data v (Some w)) top
 
-abbrev pub sounding_power : DataValues → ℕ → ℕ → Option SoundingWant → ℕ
-sounding_power v loss top None = 0
-sounding_power v loss top (Some w) = min (raw_sounding v loss w) top
+abbrev pub sounding_power : DataValues → ℕ → Option SoundingWant → ℕ
+sounding_power v top None = 0
+sounding_power v top (Some w) = min (raw_sounding v w) top
 
 -- The cap is the power of the cell's maximum. Data beside control has what control leaves of it.
 abbrev pub wanted_with : Option Settings → Cell → CellWants → Powers
 wanted_with None k w = record { control = 0; «data» = 0; sounding = 0 }
 wanted_with (Some s) k w =
     let most : ℕ = power s.maximum in
-    let v : DataValues = data_values s k.data_loop in
-    let first : ℕ = control_power s k.loss k.control_loop w.control in
+    let v : DataValues = data_values s k in
+    let first : ℕ = control_power (control_values s k) most w.control in
     record {
       control = first;
-      «data» = data_power v k.loss (most - first) w.«data»;
-      sounding = sounding_power v k.loss most w.sounding;
+      «data» = data_power v (most - first) w.«data»;
+      sounding = sounding_power v most w.sounding;
     }
 
 -- what a cell wants, its loops as they stand; a cell that is not set wants nothing

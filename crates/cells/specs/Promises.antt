@@ -31,9 +31,9 @@ abbrev pub DataCloseBelowExact : Option Settings → Option DataWant → Cell �
 DataCloseBelowExact None o k p = Unit {0}
 DataCloseBelowExact (Some s) None k p = Unit {0}
 DataCloseBelowExact (Some s) (Some w) k p =
-    let v : DataValues = data_values s k.data_loop in
+    let v : DataValues = data_values s k in
     SettingsInRange s → WantInRange (Data w) →
-    CloseBelowExact (data_level v k.loss) w.blocks (raw_data v k.loss (Some w)) (power s.maximum - p.control) p.«data»
+    CloseBelowExact (data_level v) w.blocks (raw_data v (Some w)) (power s.maximum - p.control) p.«data»
 
 -- the power of a cell's maximum; a cell that is not set has none
 abbrev pub maximum_power : Option Settings → ℕ

@@ -1,9 +1,9 @@
 -- Which settings, losses and commands a call may bring, and what they then stand for.
-use Rattle.std.specs.Prelude.{ℕ, Bool, not, ◌&&◌, ◌||◌, List, [], ◌∷◌, ℤ, pos, negsuc, ◌==◌, int_lt, nat_le, nat_lt}
+use Rattle.std.specs.Prelude.{◌≡◌, Result, IfOk, ℕ, Bool, not, ◌&&◌, ◌||◌, List, [], ◌∷◌, ℤ, pos, negsuc, ◌==◌, int_lt, nat_le, nat_lt, Option}
 use Rattle.levels.specs.Levels.{level_of}
 use Rattle.refusals.specs.declared.Refusal.TheVariants.{OutOfRange}
-use Rattle.refusals.specs.declared.Condition.{Condition}
-use Rattle.refusals.specs.First.{when, NoneHolds}
+use Rattle.refusals.specs.declared.Refusal.{Refusal}
+use Rattle.refusals.specs.First.{when, first_that_holds, refused_or, NoneHolds}
 use Rattle.cells.specs.declared.settings.Settings.{Settings}
 use Rattle.cells.specs.declared.settings.RawSettings.{RawSettings}
 use Rattle.cells.specs.declared.commands.Command.{Command}
@@ -19,7 +19,7 @@ abbrev pub is_path_factor : ℕ → Bool
 is_path_factor a = a == 0 || (nat_le 4 a && nat_le a 10)
 
 -- a kind of 0 or 1, a maximum of -40 to 33 dBm, a data base of -134 to 31 dBm, a path factor, a control base of -135 to -89 dBm
-abbrev pub settings_conditions : RawSettings → List Condition
+abbrev pub settings_conditions : RawSettings → List (Option Refusal)
 settings_conditions r =
     when (nat_lt 1 r.loop_kind) OutOfRange ∷
     when (outside (negsuc 399) (pos 330) r.maximum) OutOfRange ∷
@@ -52,11 +52,11 @@ abbrev pub SettingsInRange : Settings → Type 0
 SettingsInRange s = NoneHolds (settings_conditions (raw_settings_of s))
 
 -- a loss of at most 200 dB
-abbrev pub loss_conditions : ℕ → List Condition
+abbrev pub loss_conditions : ℕ → List (Option Refusal)
 loss_conditions n = when (nat_lt 200 n) OutOfRange ∷ []
 
 -- a channel of 0 or 1, a code of 0 to 3
-abbrev pub command_conditions : RawCommand → List Condition
+abbrev pub command_conditions : RawCommand → List (Option Refusal)
 command_conditions r =
     when (nat_lt 1 r.channel) OutOfRange ∷
     when (nat_lt 3 r.code) OutOfRange ∷
@@ -68,3 +68,14 @@ command_of r = record { channel = channel_of r.channel; code = code_of r.code }
 -- a command as a call would bring it
 abbrev pub raw_command_of : Command → RawCommand
 raw_command_of c = record { channel = channel_number c.channel; code = code_number c.code }
+
+-- settings that a call brings are refused, or answered as settings of the same numbers, which are in range
+pub record SettingsChecked (raw : RawSettings) (r : Result Settings Refusal) : Type 0 where
+  pub answers : r ≡ refused_or (first_that_holds (settings_conditions raw)) (settings_of raw)
+  pub reads_back : IfOk r (λ s. raw_settings_of s ≡ raw)
+  pub in_range : IfOk r SettingsInRange
+
+-- a command that a call brings is refused, or answered as the command of the same numbers
+pub record CommandChecked (raw : RawCommand) (r : Result Command Refusal) : Type 0 where
+  pub answers : r ≡ refused_or (first_that_holds (command_conditions raw)) (command_of raw)
+  pub reads_back : IfOk r (λ c. raw_command_of c ≡ raw)

@@ -1,6 +1,6 @@
 -- The commands that wait on the channels of a cell.
 use Rattle.std.specs.Prelude.{◌≡◌, ℕ, ◌+◌, ◌<◌, ◌≤◌, List, Some, Option}
-use Rattle.refusals.specs.declared.Condition.{Condition}
+use Rattle.refusals.specs.declared.Refusal.{Refusal}
 use Rattle.cells.specs.declared.commands.Channel.{Channel}
 use Rattle.cells.specs.declared.commands.Channel.TheVariants.{Data, Control}
 use Rattle.cells.specs.declared.commands.TpcCommand.{TpcCommand}
@@ -33,7 +33,7 @@ with_waiting Control k places = record {
 }
 
 -- when n subframes are settled: a command is refused where one of its channel waits for the same subframe
-abbrev pub queue_conditions : Cell → ℕ → Command → List Condition
+abbrev pub queue_conditions : Cell → ℕ → Command → List (Option Refusal)
 queue_conditions k n c = places_conditions (waiting_on c.channel k) (due_subframe n)
 
 -- the cell with the command put where it waits

@@ -1,8 +1,8 @@
 -- Which wants a call may bring, and what they then stand for.
-use Rattle.std.specs.Prelude.{ℕ, ◌%◌, Bool, true, cond, not, ◌&&◌, ◌||◌, List, [], ◌∷◌, ℤ, pos, negsuc, IfSome, ◌==◌, nat_le, nat_lt, unsigned_abs}
+use Rattle.std.specs.Prelude.{◌≡◌, Result, IfOk, ℕ, ◌%◌, Bool, true, cond, not, ◌&&◌, ◌||◌, List, [], ◌∷◌, ℤ, pos, negsuc, IfSome, ◌==◌, nat_le, nat_lt, unsigned_abs, Option}
 use Rattle.refusals.specs.declared.Refusal.TheVariants.{OutOfRange}
-use Rattle.refusals.specs.declared.Condition.{Condition}
-use Rattle.refusals.specs.First.{when, NoneHolds}
+use Rattle.refusals.specs.declared.Refusal.{Refusal}
+use Rattle.refusals.specs.First.{when, first_that_holds, refused_or, NoneHolds}
 use Rattle.sharing.specs.Ranks.{class_number}
 use Rattle.cells.specs.declared.wants.ControlWant.{ControlWant}
 use Rattle.cells.specs.declared.wants.DataWant.{DataWant}
@@ -28,7 +28,7 @@ abbrev pub is_sounding_size : ℕ → Bool
 is_sounding_size n = nat_le 4 n && (nat_le n 96 && n % 4 == 0)
 
 -- control: class 1 or 2, a size by its format, an offset of -2 to 6 dB
-abbrev pub control_conditions : RawWant → List Condition
+abbrev pub control_conditions : RawWant → List (Option Refusal)
 control_conditions r =
     when (not (is_class 1 2 r.class)) OutOfRange ∷
     when (not (control_size_fits r.format r.size)) OutOfRange ∷
@@ -36,7 +36,7 @@ control_conditions r =
     []
 
 -- data: class 1 to 3, 1 to 110 blocks, no format, no offset
-abbrev pub data_conditions : RawWant → List Condition
+abbrev pub data_conditions : RawWant → List (Option Refusal)
 data_conditions r =
     when (not (is_class 1 3 r.class)) OutOfRange ∷
     when (nat_lt r.size 1 || nat_lt 110 r.size) OutOfRange ∷
@@ -45,7 +45,7 @@ data_conditions r =
     []
 
 -- sounding: class 4, its number of blocks, no format, an offset index of 0 to 15
-abbrev pub sounding_conditions : RawWant → List Condition
+abbrev pub sounding_conditions : RawWant → List (Option Refusal)
 sounding_conditions r =
     when (not (is_class 4 4 r.class)) OutOfRange ∷
     when (not (is_sounding_size r.size)) OutOfRange ∷
@@ -54,7 +54,7 @@ sounding_conditions r =
     []
 
 -- the conditions of its kind; a kind that is none of the three is out of range
-abbrev pub want_conditions : RawWant → List Condition
+abbrev pub want_conditions : RawWant → List (Option Refusal)
 want_conditions r =
     cond (r.kind == 1) (control_conditions r)
     (cond (r.kind == 2) (data_conditions r)
@@ -100,6 +100,12 @@ raw_want_of w = record {
 -- a want that no call is refused for
 abbrev pub WantInRange : Want → Type 0
 WantInRange w = NoneHolds (want_conditions (raw_want_of w))
+
+-- a want that a call brings is refused, or answered as the want of the same numbers, which are in range
+pub record WantChecked (raw : RawWant) (r : Result Want Refusal) : Type 0 where
+  pub answers : r ≡ refused_or (first_that_holds (want_conditions raw)) (want_of raw)
+  pub reads_back : IfOk r (λ w. raw_want_of w ≡ raw)
+  pub in_range : IfOk r WantInRange
 
 pub record WantsInRange (w : CellWants) : Type 0 where
   pub of_control : IfSome w.control (λ x. WantInRange (Control x))

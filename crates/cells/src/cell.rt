@@ -8,6 +8,8 @@ use crate::commands::TpcCommand;
 use crate::settings::Settings;
 
 /// A cell: its settings, its path loss in dB, its loops in dB, and for each loop five places in which commands wait.
+// The ranges are no invariant of the type: `set` takes any settings and `set_loss` any loss, so they stand in the clauses.
+// A loop with its commands is no struct of its own: what is promised of loops never speaks of the commands, and each clause would have one field more to go through.
 #[derive(Clone, Copy)]
 pub struct Cell {
     pub settings: Option<Settings>,

@@ -1,22 +1,22 @@
-// Power control commands: their steps, and where they wait for their subframe.
-ghost use Rattle.std.specs.Prelude.{◌≡◌, ◌<◌, IfOk};
-ghost use Rattle.refusals.specs.First.{first_that_holds, refused_or};
-ghost use Rattle.cells.specs.Numbers.{channel_of, code_of, code_number};
-ghost use Rattle.cells.specs.Ranges.{command_conditions, command_of, raw_command_of};
+// Power control commands, and their steps.
+ghost use Rattle.std.specs.Prelude.{◌≡◌, ◌<◌};
+ghost use Rattle.refusals.specs.Numbers.{StandsFor};
+ghost use Rattle.cells.specs.Numbers.{channel_number, code_number};
+ghost use Rattle.cells.specs.Ranges.{CommandChecked};
 ghost use Rattle.cells.specs.Commands.{step_of};
 
 use crate::settings::LoopKind;
 use refusals::Refusal;
 
 /// The channel whose loop a command moves. Each discriminant is the number of the channel.
-#[derive(Clone, Copy)]
+#[derive(Clone, Copy, PartialEq, Eq)]
 pub enum Channel {
     Data = 0,
     Control = 1,
 }
 
 /// The command field of a transmit power control (TPC) command. Each discriminant is the field's value.
-#[derive(Clone, Copy)]
+#[derive(Clone, Copy, PartialEq, Eq)]
 pub enum TpcCommand {
     Zero = 0,
     One = 1,
@@ -32,6 +32,7 @@ pub struct Command {
 }
 
 /// A command as a call brings it.
+// Plain numbers, for a call may bring any: `TryFrom` reads or refuses them, in the order of the refusals.
 #[derive(Clone, Copy)]
 pub struct RawCommand {
     pub channel: u32,
@@ -42,44 +43,50 @@ const ACCUMULATED_STEPS: [i16; 4] = [-1, 0, 1, 3];
 
 const ABSOLUTE_STEPS: [i16; 4] = [-4, -1, 1, 4];
 
-/// The channel of a number. Any number but 0 gives the last.
-fn channel_of(number: u32) -> Channel
-    ensures { result ≡ channel_of number }
-{
-    if number == Channel::Data as u32 {
-        Channel::Data
-    } else {
-        Channel::Control
-    }
-}
+// By hand: no derive reads an enum from its discriminants.
+impl TryFrom<u32> for Channel {
+    type Error = Refusal;
 
-/// The command of a field's value. Any value but 0 to 2 gives the last.
-fn code_of(number: u32) -> TpcCommand
-    ensures { result ≡ code_of number }
-{
-    if number == TpcCommand::Zero as u32 {
-        TpcCommand::Zero
-    } else if number == TpcCommand::One as u32 {
-        TpcCommand::One
-    } else if number == TpcCommand::Two as u32 {
-        TpcCommand::Two
-    } else {
-        TpcCommand::Three
-    }
-}
+    ghost try_from_gives = { StandsFor channel_number 0 1 };
 
-impl Command {
-    /// The command that a call brings. Refused where its channel is above 1 or its code above 3.
-    pub fn checked(raw: RawCommand) -> Result<Command, Refusal>
-        ensures answers { result ≡ refused_or (first_that_holds (command_conditions raw)) (command_of raw) }
-        ensures reads_back { IfOk result (λ c. raw_command_of c ≡ raw) }
-    {
-        if raw.channel > 1 || raw.code > 3 {
-            return Err(Refusal::OutOfRange);
+    /// The channel of a number. Refused where it is above 1.
+    fn try_from(number: u32) -> Result<Channel, Refusal> {
+        match number {
+            0 => Ok(Channel::Data),
+            1 => Ok(Channel::Control),
+            _ => Err(Refusal::OutOfRange),
         }
+    }
+}
+
+// By hand: no derive reads an enum from its discriminants.
+impl TryFrom<u32> for TpcCommand {
+    type Error = Refusal;
+
+    ghost try_from_gives = { StandsFor code_number 0 3 };
+
+    /// The command of a field's value. Refused where it is above 3.
+    fn try_from(number: u32) -> Result<TpcCommand, Refusal> {
+        match number {
+            0 => Ok(TpcCommand::Zero),
+            1 => Ok(TpcCommand::One),
+            2 => Ok(TpcCommand::Two),
+            3 => Ok(TpcCommand::Three),
+            _ => Err(Refusal::OutOfRange),
+        }
+    }
+}
+
+impl TryFrom<RawCommand> for Command {
+    type Error = Refusal;
+
+    ghost try_from_gives = { CommandChecked };
+
+    /// The command that a call brings. Refused where its channel is above 1 or its code above 3.
+    fn try_from(raw: RawCommand) -> Result<Command, Refusal> {
         Ok(Command {
-            channel: channel_of(raw.channel),
-            code: code_of(raw.code),
+            channel: Channel::try_from(raw.channel)?,
+            code: TpcCommand::try_from(raw.code)?,
         })
     }
 }

@@ -2,12 +2,12 @@
 ghost use Rattle.std.specs.Prelude.{IfSome, ◌≡◌};
 ghost use Rattle.cells.specs.Cells.{CellInRange};
 ghost use Rattle.cells.specs.WantRanges.{WantsInRange};
-ghost use Rattle.cells.specs.Loops.{ignored, with_step, moved_data, moved_control, moved};
+ghost use Rattle.cells.specs.Loops.{ignored, moved_loop, moved_data, moved_control, moved};
 ghost use Rattle.cells.specs.LoopRule.{MovesByCommands};
 
 use crate::cell::Cell;
 use crate::commands::{TpcCommand, step};
-use crate::powers::{data_values, raw_control, raw_data};
+use crate::powers::{ControlValues, DataValues};
 use crate::settings::{LoopKind, Settings};
 use crate::waiting::take_due;
 use crate::wants::{CellWants, ControlWant, DataWant};
@@ -22,61 +22,59 @@ fn is_ignored(by: i16, raw: u64, most: u64) -> bool
     (by > 0 && raw >= most) || (by < 0 && raw <= LEAST)
 }
 
-/// A loop with a step added, unless it is ignored. The sum stops at the ends of 16 bits, which no loop in its limits comes near.
-fn add_step(before: i16, by: i16, raw: u64, most: u64) -> i16
-    ensures { result ≡ with_step before by raw most }
-{
-    if is_ignored(by, raw, most) {
-        before
-    } else {
-        before.saturating_add(by)
-    }
-}
-
-fn moved_data(
-    settings: Settings,
-    loss: u8,
-    data_loop: i16,
-    command: Option<TpcCommand>,
-    want: Option<DataWant>,
-) -> i16
-    ensures { result ≡ moved_data settings loss data_loop command want }
+/// A loop after the command that is due, judged by the power `raw` at its old value. A sum stops at the ends of 16 bits, which no loop in its limits comes near.
+fn moved_loop(kind: LoopKind, before: i16, command: Option<TpcCommand>, raw: u64, most: u64) -> i16
+    ensures { result ≡ moved_loop kind before command raw most }
 {
     let Some(code) = command else {
-        return data_loop;
+        return before;
     };
-    match settings.loop_kind {
-        LoopKind::Absolute => step(LoopKind::Absolute, code),
-        LoopKind::Accumulating => add_step(
-            data_loop,
-            step(LoopKind::Accumulating, code),
-            raw_data(data_values(settings, data_loop), loss, want),
-            settings.maximum.nanowatts(),
-        ),
-    }
-}
-
-fn moved_control(
-    settings: Settings,
-    loss: u8,
-    control_loop: i16,
-    command: Option<TpcCommand>,
-    want: Option<ControlWant>,
-) -> i16
-    ensures { result ≡ moved_control settings loss control_loop command want }
-{
-    match command {
-        Some(code) => add_step(
-            control_loop,
-            step(LoopKind::Accumulating, code),
-            raw_control(settings, loss, control_loop, want),
-            settings.maximum.nanowatts(),
-        ),
-        None => control_loop,
+    let by = step(kind, code);
+    match kind {
+        LoopKind::Absolute => by,
+        LoopKind::Accumulating if is_ignored(by, raw, most) => before,
+        LoopKind::Accumulating => before.saturating_add(by),
     }
 }
 
 impl Cell {
+    /// The data loop after the command that is due.
+    // Two channels of one `moved_loop`: this and `moved_control` each hand it their own values.
+    fn moved_data(
+        &self,
+        settings: Settings,
+        command: Option<TpcCommand>,
+        want: Option<DataWant>,
+    ) -> i16
+        ensures { result ≡ moved_data settings self.now command want }
+    {
+        moved_loop(
+            settings.loop_kind,
+            self.data_loop,
+            command,
+            DataValues::of(settings, self).raw_data(want),
+            settings.maximum.nanowatts(),
+        )
+    }
+
+    /// The control loop after the command that is due: it always accumulates.
+    fn moved_control(
+        &self,
+        settings: Settings,
+        command: Option<TpcCommand>,
+        want: Option<ControlWant>,
+    ) -> i16
+        ensures { result ≡ moved_control settings self.now command want }
+    {
+        moved_loop(
+            LoopKind::Accumulating,
+            self.control_loop,
+            command,
+            ControlValues::of(settings, self).raw_control(want),
+            settings.maximum.nanowatts(),
+        )
+    }
+
     /// Moves the loops by the commands that wait for a subframe, and takes these.
     pub fn move_loops(&mut self, wants: CellWants, subframe: u32)
         ensures leaves { self.new ≡ moved self.old wants subframe }
@@ -88,19 +86,7 @@ impl Cell {
         };
         let data_command = take_due(&mut self.data_commands, subframe);
         let control_command = take_due(&mut self.control_commands, subframe);
-        self.data_loop = moved_data(
-            settings,
-            self.loss,
-            self.data_loop,
-            data_command,
-            wants.data,
-        );
-        self.control_loop = moved_control(
-            settings,
-            self.loss,
-            self.control_loop,
-            control_command,
-            wants.control,
-        );
+        self.data_loop = self.moved_data(settings, data_command, wants.data);
+        self.control_loop = self.moved_control(settings, control_command, wants.control);
     }
 }

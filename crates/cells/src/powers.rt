@@ -1,8 +1,9 @@
 // The levels of a cell, and the powers that it wants in whole nanowatts.
-ghost use Rattle.std.specs.Prelude.{◌≡◌, ◌≤◌, pos, negsuc, ◌≤ℤ◌, Some};
+ghost use Rattle.std.specs.Prelude.{◌≡◌, ◌*◌, ◌≤◌, pos, ◌+ℤ◌, Some};
+ghost use Rattle.levels.specs.Levels.{level_of};
 ghost use Rattle.cells.specs.declared.wants.Want.TheVariants.{Data};
 ghost use Rattle.cells.specs.WantRanges.{WantInRange};
-ghost use Rattle.cells.specs.Powers.{data_values, data_level, sounding_offset, sounding_level, open_loop_decibels, offset_or_none, format_tenths, control_level, format_power, blocks_or_one, raw_data, raw_control, raw_sounding, control_power, data_power, sounding_power, wanted_with, wanted_powers};
+ghost use Rattle.cells.specs.Powers.{data_values, control_values, data_level, sounding_offset, sounding_level, open_loop_decibels, offset_or_none, format_tenths, tenths_of, power_of, control_level, raw_data, raw_control, raw_sounding, control_power, data_power, sounding_power, wanted_with, wanted_powers};
 ghost use Rattle.cells.specs.Promises.{CloseBelowExact, DataCloseBelowExact, WithinMaximum};
 
 use crate::cell::Cell;
@@ -10,12 +11,21 @@ use crate::settings::Settings;
 use crate::wants::{CellWants, ControlFormat, ControlWant, DataWant, SoundingWant};
 use levels::Level;
 
-/// What the data level of a cell is made from, besides its path loss: the base in dBm, the path factor in tenths, and the loop in dB.
+/// What the data level of a cell is made from: the base in dBm, the path factor in tenths, the path loss in dB, and the loop in dB.
 #[derive(Clone, Copy)]
 pub struct DataValues {
     pub base: i16,
     pub factor: u8,
+    pub loss: u8,
     pub adjustment: i16,
+}
+
+/// What the control level of a cell is made from before any offset: the base in dBm, the path loss in dB, and the loop in dB.
+#[derive(Clone, Copy)]
+pub(crate) struct ControlValues {
+    base: i16,
+    loss: u8,
+    adjustment: i16,
 }
 
 /// The powers that a cell wants in a subframe, in nanowatts.
@@ -26,175 +36,179 @@ pub struct Powers {
     pub sounding: u64,
 }
 
-pub(crate) fn data_values(settings: Settings, data_loop: i16) -> DataValues
-    ensures { result ≡ data_values settings data_loop }
-{
-    DataValues {
-        base: settings.data_base,
-        factor: settings.path_factor,
-        adjustment: data_loop,
-    }
+impl Powers {
+    /// Nothing is wanted.
+    pub const NONE: Powers = Powers {
+        control: 0,
+        data: 0,
+        sounding: 0,
+    };
 }
 
-fn data_level(values: DataValues, loss: u8) -> Level
-    ensures { result ≡ data_level values loss }
-{
-    Level::of(
-        values.base as i32 + values.adjustment as i32,
-        (values.factor as u32 * loss as u32) as i32,
-    )
+impl DataValues {
+    /// The values of a cell with these settings, its loop as it stands.
+    pub(crate) fn of(settings: Settings, cell: &Cell) -> DataValues
+        ensures { result ≡ data_values settings cell.now }
+    {
+        DataValues {
+            base: settings.data_base,
+            factor: settings.path_factor,
+            loss: cell.loss,
+            adjustment: cell.data_loop,
+        }
+    }
+
+    /// The part of the path loss that the path factor makes up for, in tenths of a decibel.
+    fn part_of_loss(self) -> u16
+        ensures { result ≡ self.factor * self.loss }
+    {
+        u16::from(self.factor) * u16::from(self.loss)
+    }
+
+    /// The data level with so many tenths of a decibel more.
+    fn level_above(self, tenths: i16) -> Level
+        ensures { result ≡ level_of (pos 0) ((data_level self).tenths +ℤ tenths) }
+    {
+        Level::of(
+            i32::from(self.base) + i32::from(self.adjustment),
+            i32::from(self.part_of_loss()) + i32::from(tenths),
+        )
+    }
+
+    fn level(self) -> Level
+        ensures { result ≡ data_level self }
+    {
+        self.level_above(0)
+    }
+
+    /// The data power before any cap. Where there is no want it is that of one block.
+    pub(crate) fn raw_data(self, want: Option<DataWant>) -> u64
+        ensures { result ≡ raw_data self want }
+    {
+        self.level().nanowatts() * u64::from(want.map_or(1, |want| want.blocks))
+    }
+
+    fn data_power(self, cap: u64, want: Option<DataWant>) -> u64
+        ensures { result ≡ data_power self «cap» want }
+    {
+        want.map_or(0, |_| self.raw_data(want).min(cap))
+    }
+
+    fn sounding_level(self, offset: u8) -> Level
+        ensures { result ≡ sounding_level self offset }
+    {
+        self.level_above(sounding_offset(offset))
+    }
+
+    fn raw_sounding(self, want: SoundingWant) -> u64
+        ensures { result ≡ raw_sounding self want }
+    {
+        self.sounding_level(want.offset).nanowatts() * u64::from(want.blocks)
+    }
+
+    fn sounding_power(self, cap: u64, want: Option<SoundingWant>) -> u64
+        ensures { result ≡ sounding_power self «cap» want }
+    {
+        want.map_or(0, |want| self.raw_sounding(want).min(cap))
+    }
 }
 
 /// The offset of sounding from data that an index stands for, in tenths of a decibel.
-fn sounding_offset(index: u8) -> i32
+fn sounding_offset(index: u8) -> i16
     ensures { result ≡ sounding_offset index }
 {
-    15 * index as i32 - 105
+    15 * i16::from(index) - 105
 }
 
-fn sounding_level(values: DataValues, loss: u8, offset: u8) -> Level
-    ensures { result ≡ sounding_level values loss offset }
-{
-    Level::from_tenths(data_level(values, loss).tenths() as i32 + sounding_offset(offset))
-}
+impl ControlWant {
+    /// What format 3 adds to the level: half a decibel for each bit after the first.
+    fn format_tenths(self) -> u16
+        ensures { result ≡ tenths_of self.format self.size }
+    {
+        match self.format {
+            ControlFormat::Format3 => 5 * u16::from(self.size.saturating_sub(1)),
+            _ => 0,
+        }
+    }
 
-/// The decibels of a control level before any offset.
-fn open_loop_decibels(settings: Settings, loss: u8, control_loop: i16) -> i32
-    ensures { result ≡ open_loop_decibels settings loss control_loop }
-{
-    settings.control_base as i32 + loss as i32 + control_loop as i32
-}
-
-fn offset_or_none(want: Option<ControlWant>) -> i32
-    ensures value { result ≡ offset_or_none want }
-    ensures low { negsuc 127 ≤ℤ result }
-    ensures high { result ≤ℤ pos 127 }
-{
-    match want {
-        Some(want) => want.offset as i32,
-        None => 0,
+    /// What format 2 makes of a power: a quarter of it for each bit, and for four bits at least.
+    fn format_power(self, nanowatts: u64) -> u64
+        requires { nanowatts ≤ 9772372209 }
+        ensures { result ≡ power_of self.format self.size nanowatts }
+    {
+        match self.format {
+            ControlFormat::Format2 => nanowatts * u64::from(self.size.max(4)) / 4,
+            _ => nanowatts,
+        }
     }
 }
 
-/// What format 3 adds to the level: half a decibel for each bit after the first.
+/// The offset of a want, in dB, or 0.
+fn offset_or_none(want: Option<ControlWant>) -> i8
+    ensures { result ≡ offset_or_none want }
+{
+    want.map_or(0, |want| want.offset)
+}
+
+/// The tenths of a decibel that the format of a want adds, or 0.
 fn format_tenths(want: Option<ControlWant>) -> u16
     ensures { result ≡ format_tenths want }
 {
-    match want {
-        Some(
-            ControlWant {
-                format: ControlFormat::Format3,
-                size,
-                ..
-            },
-        ) => 5 * size.saturating_sub(1) as u16,
-        _ => 0,
-    }
+    want.map_or(0, |want| want.format_tenths())
 }
 
-fn control_level(
-    settings: Settings,
-    loss: u8,
-    control_loop: i16,
-    want: Option<ControlWant>,
-) -> Level
-    ensures { result ≡ control_level settings loss control_loop want }
-{
-    Level::of(
-        open_loop_decibels(settings, loss, control_loop) + offset_or_none(want),
-        format_tenths(want) as i32,
-    )
-}
-
-/// What format 2 makes of a power: a quarter of it for each bit, and for four bits at least.
-fn format_power(want: Option<ControlWant>, nanowatts: u64) -> u64
-    requires { nanowatts ≤ 9772372209 }
-    ensures { result ≡ format_power want nanowatts }
-{
-    match want {
-        Some(
-            ControlWant {
-                format: ControlFormat::Format2,
-                size,
-                ..
-            },
-        ) => nanowatts * size.max(4) as u64 / 4,
-        _ => nanowatts,
-    }
-}
-
-fn blocks_or_one(want: Option<DataWant>) -> u8
-    ensures { result ≡ blocks_or_one want }
-{
-    match want {
-        Some(want) => want.blocks,
-        None => 1,
-    }
-}
-
-/// The data power before any cap. Where there is no want it is that of one block.
-pub(crate) fn raw_data(values: DataValues, loss: u8, want: Option<DataWant>) -> u64
-    ensures { result ≡ raw_data values loss want }
-{
-    data_level(values, loss).nanowatts() * blocks_or_one(want) as u64
-}
-
-/// The control power before any cap. Where there is no want it has no offset and no format.
-pub(crate) fn raw_control(
-    settings: Settings,
-    loss: u8,
-    control_loop: i16,
-    want: Option<ControlWant>,
-) -> u64
-    ensures { result ≡ raw_control settings loss control_loop want }
-{
-    format_power(
-        want,
-        control_level(settings, loss, control_loop, want).nanowatts(),
-    )
-}
-
-fn raw_sounding(values: DataValues, loss: u8, want: SoundingWant) -> u64
-    ensures { result ≡ raw_sounding values loss want }
-{
-    sounding_level(values, loss, want.offset).nanowatts() * want.blocks as u64
-}
-
-fn control_power(settings: Settings, loss: u8, control_loop: i16, want: Option<ControlWant>) -> u64
-    ensures { result ≡ control_power settings loss control_loop want }
-{
-    match want {
-        Some(_) => {
-            raw_control(settings, loss, control_loop, want).min(settings.maximum.nanowatts())
+impl ControlValues {
+    /// The values of a cell with these settings, its loop as it stands.
+    pub(crate) fn of(settings: Settings, cell: &Cell) -> ControlValues
+        ensures { result ≡ control_values settings cell.now }
+    {
+        ControlValues {
+            base: settings.control_base,
+            loss: cell.loss,
+            adjustment: cell.control_loop,
         }
-        None => 0,
     }
-}
 
-fn data_power(values: DataValues, loss: u8, cap: u64, want: Option<DataWant>) -> u64
-    ensures { result ≡ data_power values loss «cap» want }
-{
-    match want {
-        Some(_) => raw_data(values, loss, want).min(cap),
-        None => 0,
+    /// The decibels of the level before any offset.
+    fn open_loop_decibels(self) -> i32
+        ensures { result ≡ open_loop_decibels self }
+    {
+        i32::from(self.base) + i32::from(self.loss) + i32::from(self.adjustment)
+    }
+
+    fn level(self, want: Option<ControlWant>) -> Level
+        ensures { result ≡ control_level self want }
+    {
+        let offset = offset_or_none(want);
+        let tenths = format_tenths(want);
+        Level::of(
+            self.open_loop_decibels() + i32::from(offset),
+            i32::from(tenths),
+        )
+    }
+
+    /// The control power before any cap. Where there is no want it has no offset and no format.
+    pub(crate) fn raw_control(self, want: Option<ControlWant>) -> u64
+        ensures { result ≡ raw_control self want }
+    {
+        let nanowatts = self.level(want).nanowatts();
+        want.map_or(nanowatts, |want| want.format_power(nanowatts))
+    }
+
+    fn control_power(self, cap: u64, want: Option<ControlWant>) -> u64
+        ensures { result ≡ control_power self «cap» want }
+    {
+        want.map_or(0, |_| self.raw_control(want).min(cap))
     }
 }
 
 /// The power of a data want under a cap.
-pub fn data_want(values: DataValues, loss: u8, cap: u64, want: DataWant) -> u64
-    ensures value { result ≡ data_power values loss «cap» (Some want) }
-    ensures want_close_below_exact { «cap» ≤ 1995262314 → WantInRange (Data want) → CloseBelowExact (data_level values loss) want.blocks (raw_data values loss (Some want)) «cap» result }
+// Cap and want stay apart: the cap is the cell's, and of a subframe only for data beside control.
+pub fn data_want(values: DataValues, cap: u64, want: DataWant) -> u64
+    ensures value { result ≡ data_power values «cap» (Some want) }
+    ensures want_close_below_exact { «cap» ≤ 1995262314 → WantInRange (Data want) → CloseBelowExact (data_level values) want.blocks (raw_data values (Some want)) «cap» result }
 {
-    data_power(values, loss, cap, Some(want))
-}
-
-fn sounding_power(values: DataValues, loss: u8, cap: u64, want: Option<SoundingWant>) -> u64
-    ensures { result ≡ sounding_power values loss «cap» want }
-{
-    match want {
-        Some(want) => raw_sounding(values, loss, want).min(cap),
-        None => 0,
-    }
+    values.data_power(cap, Some(want))
 }
 
 /// What a cell with these settings wants, its loops as they stand.
@@ -202,12 +216,12 @@ fn powers_with(settings: Settings, cell: &Cell, wants: CellWants) -> Powers
     ensures { result ≡ wanted_with (Some settings) cell.now wants }
 {
     let most = settings.maximum.nanowatts();
-    let values = data_values(settings, cell.data_loop);
-    let control = control_power(settings, cell.loss, cell.control_loop, wants.control);
+    let values = DataValues::of(settings, cell);
+    let control = ControlValues::of(settings, cell).control_power(most, wants.control);
     Powers {
         control,
-        data: data_power(values, cell.loss, most.saturating_sub(control), wants.data),
-        sounding: sounding_power(values, cell.loss, most, wants.sounding),
+        data: values.data_power(most.saturating_sub(control), wants.data),
+        sounding: values.sounding_power(most, wants.sounding),
     }
 }
 
@@ -220,11 +234,7 @@ impl Cell {
     {
         match self.settings {
             Some(settings) => powers_with(settings, self, wants),
-            None => Powers {
-                control: 0,
-                data: 0,
-                sounding: 0,
-            },
+            None => Powers::NONE,
         }
     }
 }

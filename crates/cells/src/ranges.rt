@@ -1,34 +1,18 @@
-// Tests of ranges, which the fields of calls share.
+// The range of a path loss.
 ghost use Rattle.std.specs.Prelude.{◌≡◌};
-ghost use Rattle.refusals.specs.First.{when, first_that_holds, refused_or};
-ghost use Rattle.refusals.specs.declared.Refusal.TheVariants.{OutOfRange};
-ghost use Rattle.cells.specs.Ranges.{outside, loss_conditions};
+ghost use Rattle.refusals.specs.First.{first_that_holds, refused_or};
+ghost use Rattle.cells.specs.Ranges.{loss_conditions};
 
-use refusals::{Condition, Refusal};
-
-/// A condition under which a field is out of range.
-pub(crate) fn out_of_range(holds: bool) -> Condition
-    ensures { result ≡ when holds OutOfRange }
-{
-    Condition {
-        holds,
-        refusal: Refusal::OutOfRange,
-    }
-}
-
-/// Whether a value lies below `low` or above `high`.
-pub(crate) fn is_outside(low: i64, high: i64, value: i64) -> bool
-    ensures { result ≡ outside low high value }
-{
-    value < low || high < value
-}
+use refusals::Refusal;
 
 /// A path loss of 0 to 200 dB. Any other is refused.
+// No `TryFrom`: a loss is a plain `u8`, and `u8::try_from` takes up to 255.
 pub fn checked_loss(raw: u32) -> Result<u8, Refusal>
     ensures { result ≡ refused_or (first_that_holds (loss_conditions raw)) raw }
 {
     if raw > 200 {
         return Err(Refusal::OutOfRange);
     }
+    // At most 200: tested above.
     Ok(raw as u8)
 }

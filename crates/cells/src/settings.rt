@@ -1,15 +1,16 @@
 // What a cell is set to, and the range of each setting.
-ghost use Rattle.std.specs.Prelude.{◌≡◌, IfOk};
-ghost use Rattle.refusals.specs.First.{first_that_holds, refused_or};
-ghost use Rattle.cells.specs.Numbers.{loop_kind_of};
-ghost use Rattle.cells.specs.Ranges.{is_path_factor, settings_conditions, settings_of, raw_settings_of, SettingsInRange};
+ghost use Rattle.std.specs.Prelude.{◌≡◌, ◌∷◌, nat_lt};
+ghost use Rattle.refusals.specs.declared.Refusal.TheVariants.{OutOfRange};
+ghost use Rattle.refusals.specs.First.{when};
+ghost use Rattle.refusals.specs.Numbers.{StandsFor};
+ghost use Rattle.cells.specs.Numbers.{loop_kind_number};
+ghost use Rattle.cells.specs.Ranges.{outside, is_path_factor, settings_conditions, SettingsChecked};
 
-use crate::ranges::{is_outside, out_of_range};
 use levels::Level;
-use refusals::{Condition, Refusal, first_refusal};
+use refusals::{Refusal, refuse_first};
 
 /// How a data loop takes a command. Each discriminant is the number of the kind.
-#[derive(Clone, Copy)]
+#[derive(Clone, Copy, PartialEq, Eq)]
 pub enum LoopKind {
     /// The step is added to the loop.
     Accumulating = 0,
@@ -28,6 +29,7 @@ pub struct Settings {
 }
 
 /// Settings as a call brings them. The maximum is in tenths of a dBm.
+// Plain numbers, for a call may bring any: `TryFrom` reads or refuses them, in the order of the refusals.
 #[derive(Clone, Copy)]
 pub struct RawSettings {
     pub loop_kind: u32,
@@ -37,49 +39,61 @@ pub struct RawSettings {
     pub control_base: i64,
 }
 
-/// The kind of a number. Any number but 0 gives the last.
-fn loop_kind_of(number: u32) -> LoopKind
-    ensures { result ≡ loop_kind_of number }
-{
-    if number == LoopKind::Accumulating as u32 {
-        LoopKind::Accumulating
-    } else {
-        LoopKind::Absolute
+// By hand: no derive reads an enum from its discriminants.
+impl TryFrom<u32> for LoopKind {
+    type Error = Refusal;
+
+    ghost try_from_gives = { StandsFor loop_kind_number 0 1 };
+
+    /// The kind of a number. Refused where it is above 1.
+    fn try_from(number: u32) -> Result<LoopKind, Refusal> {
+        match number {
+            0 => Ok(LoopKind::Accumulating),
+            1 => Ok(LoopKind::Absolute),
+            _ => Err(Refusal::OutOfRange),
+        }
     }
+}
+
+/// Whether a value lies below `low` or above `high`.
+// A function of its own: with three calls of `contains` in `conditions` the proof is not found.
+fn is_outside(low: i64, high: i64, value: i64) -> bool
+    ensures { result ≡ outside low high value }
+{
+    !(low..=high).contains(&value)
 }
 
 /// Whether the path factor is 0, or 0.4 to 1.0 in tenths.
 fn is_path_factor(factor: u32) -> bool
     ensures { result ≡ is_path_factor factor }
 {
-    factor == 0 || (4 <= factor && factor <= 10)
+    factor == 0 || (4..=10).contains(&factor)
 }
 
-/// Where settings are refused.
-fn conditions(raw: RawSettings) -> [Condition; 5]
-    ensures { result ≡ settings_conditions raw }
+/// Where the settings of a call are refused, whatever their kind.
+fn conditions(raw: RawSettings) -> [Option<Refusal>; 4]
+    ensures { when (nat_lt 1 raw.loop_kind) OutOfRange ∷ result ≡ settings_conditions raw }
 {
     [
-        out_of_range(raw.loop_kind > 1),
-        out_of_range(is_outside(-400, 330, raw.maximum)),
-        out_of_range(is_outside(-134, 31, raw.data_base)),
-        out_of_range(!is_path_factor(raw.path_factor)),
-        out_of_range(is_outside(-135, -89, raw.control_base)),
+        Refusal::OutOfRange.when(is_outside(-400, 330, raw.maximum)),
+        Refusal::OutOfRange.when(is_outside(-134, 31, raw.data_base)),
+        Refusal::OutOfRange.when(!is_path_factor(raw.path_factor)),
+        Refusal::OutOfRange.when(is_outside(-135, -89, raw.control_base)),
     ]
 }
 
-impl Settings {
+impl TryFrom<RawSettings> for Settings {
+    type Error = Refusal;
+
+    ghost try_from_gives = { SettingsChecked };
+
     /// The settings that a call brings. Refused where one of them is out of its range.
-    pub fn checked(raw: RawSettings) -> Result<Settings, Refusal>
-        ensures answers { result ≡ refused_or (first_that_holds (settings_conditions raw)) (settings_of raw) }
-        ensures reads_back { IfOk result (λ s. raw_settings_of s ≡ raw) }
-        ensures in_range { IfOk result SettingsInRange }
-    {
-        if let Some(refusal) = first_refusal(&conditions(raw)) {
-            return Err(refusal);
-        }
+    fn try_from(raw: RawSettings) -> Result<Settings, Refusal> {
+        let loop_kind = LoopKind::try_from(raw.loop_kind)?;
+        refuse_first(&conditions(raw))?;
+        // In range: tested above.
         Ok(Settings {
-            loop_kind: loop_kind_of(raw.loop_kind),
+            loop_kind,
             maximum: Level::from_tenths(raw.maximum as i32),
             data_base: raw.data_base as i16,
             path_factor: raw.path_factor as u8,

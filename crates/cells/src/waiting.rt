@@ -13,7 +13,7 @@ use refusals::Refusal;
 fn due_subframe(settled: u32) -> u64
     ensures { result ≡ due_subframe settled }
 {
-    settled as u64 + 4
+    u64::from(settled) + 4
 }
 
 /// The place in which a command waits for a subframe.
@@ -29,7 +29,7 @@ pub(crate) fn take_due(places: &mut [Option<TpcCommand>; 5], subframe: u32) -> O
     ensures value { result ≡ due places.old subframe }
     ensures leaves { places.new ≡ taken places.old subframe }
 {
-    places[place_of(subframe as u64)].take()
+    places[place_of(u64::from(subframe))].take()
 }
 
 /// Has a command wait for a subframe. Refused where one waits for it already.

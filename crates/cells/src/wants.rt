@@ -1,17 +1,17 @@
 // What a subframe wants of a cell, and the range of each field of a want.
-ghost use Rattle.std.specs.Prelude.{◌≡◌, IfOk};
+ghost use Rattle.std.specs.Prelude.{◌≡◌};
 ghost use Rattle.refusals.specs.First.{first_that_holds, refused_or};
-ghost use Rattle.cells.specs.Numbers.{class_of, format_of};
-ghost use Rattle.cells.specs.WantRanges.{is_class, control_size_fits, is_sounding_size, control_conditions, data_conditions, sounding_conditions, want_conditions, control_of, data_of, sounding_of, want_of, raw_want_of, WantInRange};
-ghost use Rattle.cells.specs.Kinds.{kind_of, class_of_want};
+ghost use Rattle.refusals.specs.Numbers.{StandsFor};
+ghost use Rattle.cells.specs.Numbers.{format_number};
+ghost use Rattle.cells.specs.WantRanges.{control_size_fits, is_sounding_size, control_conditions, data_conditions, sounding_conditions, want_conditions, control_of, data_of, sounding_of, want_of, WantChecked};
+ghost use Rattle.cells.specs.Kinds.{kind_number, kind_of, class_of_want};
 ghost use Rattle.cells.specs.declared.wants.Want.TheVariants.{Control, Data, Sounding};
 
-use crate::ranges::{is_outside, out_of_range};
-use refusals::{Condition, Refusal, first_refusal};
+use refusals::Refusal;
 use sharing::Class;
 
 /// What a want is for. Each discriminant is the number of the kind.
-#[derive(Clone, Copy)]
+#[derive(Clone, Copy, PartialEq, Eq)]
 pub enum WantKind {
     Control = 1,
     Data = 2,
@@ -19,7 +19,7 @@ pub enum WantKind {
 }
 
 /// The format of a control channel. Each discriminant is the number of the format.
-#[derive(Clone, Copy)]
+#[derive(Clone, Copy, PartialEq, Eq)]
 pub enum ControlFormat {
     Format1 = 1,
     Format2 = 2,
@@ -58,6 +58,7 @@ pub enum Want {
 }
 
 /// A want as a call brings it.
+// Plain numbers, for a call may bring any: `TryFrom` reads or refuses them, in the order of the refusals.
 #[derive(Clone, Copy)]
 pub struct RawWant {
     pub kind: u32,
@@ -75,102 +76,81 @@ pub struct CellWants {
     pub sounding: Option<SoundingWant>,
 }
 
-/// The class of a number. Any number but 1 to 3 gives the last.
-fn class_of(number: u32) -> Class
-    ensures { result ≡ class_of number }
-{
-    if number == Class::Acknowledgement as u32 {
-        Class::Acknowledgement
-    } else if number == Class::ControlInformation as u32 {
-        Class::ControlInformation
-    } else if number == Class::DataOnly as u32 {
-        Class::DataOnly
-    } else {
-        Class::Sounding
+impl CellWants {
+    /// Nothing is wanted.
+    pub const NONE: CellWants = CellWants {
+        control: None,
+        data: None,
+        sounding: None,
+    };
+}
+
+// By hand: no derive reads an enum from its discriminants.
+impl TryFrom<u32> for WantKind {
+    type Error = Refusal;
+
+    ghost try_from_gives = { StandsFor kind_number 1 3 };
+
+    /// The kind of a number. Refused where it is not 1 to 3.
+    fn try_from(number: u32) -> Result<WantKind, Refusal> {
+        match number {
+            1 => Ok(WantKind::Control),
+            2 => Ok(WantKind::Data),
+            3 => Ok(WantKind::Sounding),
+            _ => Err(Refusal::OutOfRange),
+        }
     }
 }
 
-/// The format of a number. Any number but 1 and 2 gives the last.
-fn format_of(number: u32) -> ControlFormat
-    ensures { result ≡ format_of number }
-{
-    if number == ControlFormat::Format1 as u32 {
-        ControlFormat::Format1
-    } else if number == ControlFormat::Format2 as u32 {
-        ControlFormat::Format2
-    } else {
-        ControlFormat::Format3
-    }
-}
+// By hand: no derive reads an enum from its discriminants.
+impl TryFrom<u32> for ControlFormat {
+    type Error = Refusal;
 
-/// Whether a class lies between two others.
-fn is_class(first: u32, last: u32, class: u32) -> bool
-    ensures { result ≡ is_class first last class }
-{
-    first <= class && class <= last
+    ghost try_from_gives = { StandsFor format_number 1 3 };
+
+    /// The format of a number. Refused where it is not 1 to 3.
+    fn try_from(number: u32) -> Result<ControlFormat, Refusal> {
+        match number {
+            1 => Ok(ControlFormat::Format1),
+            2 => Ok(ControlFormat::Format2),
+            3 => Ok(ControlFormat::Format3),
+            _ => Err(Refusal::OutOfRange),
+        }
+    }
 }
 
 /// Whether a control want of this format may have this size.
-fn control_size_fits(format: u32, size: u32) -> bool
-    ensures { result ≡ control_size_fits format size }
+fn control_size_fits(format: ControlFormat, size: u32) -> bool
+    ensures { result ≡ control_size_fits (format_number format) size }
 {
-    (format == 1 && size == 0)
-        || (format == 2 && size <= 13)
-        || (format == 3 && 1 <= size && size <= 11)
+    match format {
+        ControlFormat::Format1 => size == 0,
+        ControlFormat::Format2 => size <= 13,
+        ControlFormat::Format3 => (1..=11).contains(&size),
+    }
 }
 
 /// Whether sounding may take so many blocks.
 fn is_sounding_size(size: u32) -> bool
     ensures { result ≡ is_sounding_size size }
 {
-    4 <= size && size <= 96 && size % 4 == 0
+    (4..=96).contains(&size) && size % 4 == 0
 }
 
-/// Where a control want is refused.
-fn control_conditions(raw: RawWant) -> [Condition; 3]
-    ensures { result ≡ control_conditions raw }
-{
-    [
-        out_of_range(!is_class(1, 2, raw.class)),
-        out_of_range(!control_size_fits(raw.format, raw.size)),
-        out_of_range(is_outside(-2, 6, raw.offset)),
-    ]
-}
-
-/// Where a data want is refused.
-fn data_conditions(raw: RawWant) -> [Condition; 4]
-    ensures { result ≡ data_conditions raw }
-{
-    [
-        out_of_range(!is_class(1, 3, raw.class)),
-        out_of_range(raw.size < 1 || raw.size > 110),
-        out_of_range(raw.format > 0),
-        out_of_range(is_outside(0, 0, raw.offset)),
-    ]
-}
-
-/// Where a sounding want is refused.
-fn sounding_conditions(raw: RawWant) -> [Condition; 4]
-    ensures { result ≡ sounding_conditions raw }
-{
-    [
-        out_of_range(!is_class(4, 4, raw.class)),
-        out_of_range(!is_sounding_size(raw.size)),
-        out_of_range(raw.format > 0),
-        out_of_range(is_outside(0, 15, raw.offset)),
-    ]
-}
-
+// One function for each kind: each has ranges of its own.
 fn checked_control(raw: RawWant) -> Result<Want, Refusal>
     ensures { result ≡ refused_or (first_that_holds (control_conditions raw)) (Control (control_of raw)) }
 {
-    if let Some(refusal) = first_refusal(&control_conditions(raw)) {
-        return Err(refusal);
+    let class = Class::try_from(raw.class)?;
+    let format = ControlFormat::try_from(raw.format)?;
+    if raw.class > 2 || !control_size_fits(format, raw.size) || !(-2..=6).contains(&raw.offset) {
+        return Err(Refusal::OutOfRange);
     }
+    // In range: tested above.
     Ok(Want::Control(ControlWant {
-        class: class_of(raw.class),
+        class,
         offset: raw.offset as i8,
-        format: format_of(raw.format),
+        format,
         size: raw.size as u8,
     }))
 }
@@ -178,11 +158,13 @@ fn checked_control(raw: RawWant) -> Result<Want, Refusal>
 fn checked_data(raw: RawWant) -> Result<Want, Refusal>
     ensures { result ≡ refused_or (first_that_holds (data_conditions raw)) (Data (data_of raw)) }
 {
-    if let Some(refusal) = first_refusal(&data_conditions(raw)) {
-        return Err(refusal);
+    let class = Class::try_from(raw.class)?;
+    if raw.class > 3 || !(1..=110).contains(&raw.size) || raw.format != 0 || raw.offset != 0 {
+        return Err(Refusal::OutOfRange);
     }
+    // In range: tested above.
     Ok(Want::Data(DataWant {
-        class: class_of(raw.class),
+        class,
         blocks: raw.size as u8,
     }))
 }
@@ -190,33 +172,44 @@ fn checked_data(raw: RawWant) -> Result<Want, Refusal>
 fn checked_sounding(raw: RawWant) -> Result<Want, Refusal>
     ensures { result ≡ refused_or (first_that_holds (sounding_conditions raw)) (Sounding (sounding_of raw)) }
 {
-    if let Some(refusal) = first_refusal(&sounding_conditions(raw)) {
-        return Err(refusal);
+    if raw.class != 4
+        || !is_sounding_size(raw.size)
+        || raw.format != 0
+        || !(0..=15).contains(&raw.offset)
+    {
+        return Err(Refusal::OutOfRange);
     }
+    // In range: tested above.
     Ok(Want::Sounding(SoundingWant {
         blocks: raw.size as u8,
         offset: raw.offset as u8,
     }))
 }
 
-impl Want {
-    /// The want that a call brings. Refused where its kind is none of the three, or a field is out of that kind's range.
-    pub fn checked(raw: RawWant) -> Result<Want, Refusal>
-        ensures answers { result ≡ refused_or (first_that_holds (want_conditions raw)) (want_of raw) }
-        ensures reads_back { IfOk result (λ w. raw_want_of w ≡ raw) }
-        ensures in_range { IfOk result WantInRange }
-    {
-        if raw.kind == WantKind::Control as u32 {
-            checked_control(raw)
-        } else if raw.kind == WantKind::Data as u32 {
-            checked_data(raw)
-        } else if raw.kind == WantKind::Sounding as u32 {
-            checked_sounding(raw)
-        } else {
-            Err(Refusal::OutOfRange)
-        }
+/// The want that a call brings, by its kind.
+// Apart from `try_from`, so that only what is read back has to be shown there.
+fn checked(raw: RawWant) -> Result<Want, Refusal>
+    ensures { result ≡ refused_or (first_that_holds (want_conditions raw)) (want_of raw) }
+{
+    match WantKind::try_from(raw.kind)? {
+        WantKind::Control => checked_control(raw),
+        WantKind::Data => checked_data(raw),
+        WantKind::Sounding => checked_sounding(raw),
     }
+}
 
+impl TryFrom<RawWant> for Want {
+    type Error = Refusal;
+
+    ghost try_from_gives = { WantChecked };
+
+    /// The want that a call brings. Refused where its kind is none of the three, or a field is out of that kind's range.
+    fn try_from(raw: RawWant) -> Result<Want, Refusal> {
+        checked(raw)
+    }
+}
+
+impl Want {
     pub fn kind(self) -> WantKind
         ensures { result ≡ kind_of self }
     {

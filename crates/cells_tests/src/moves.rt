@@ -16,17 +16,12 @@ fn cell_of(maximum: i32, data_base: i16, path_factor: u8) -> Cell {
 
 /// The wants of a subframe for data alone.
 fn wants_of(data: Option<u8>) -> CellWants {
-    let data = match data {
-        Some(blocks) => Some(DataWant {
+    CellWants {
+        data: data.map(|blocks| DataWant {
             class: Class::DataOnly,
             blocks,
         }),
-        None => None,
-    };
-    CellWants {
-        control: None,
-        data,
-        sounding: None,
+        ..CellWants::NONE
     }
 }
 

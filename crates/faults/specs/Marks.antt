@@ -7,10 +7,6 @@ pieces [] = []
 pieces (p ∷ []) = p
 pieces (p ∷ q ∷ ps) = p ++ pieces (q ∷ ps)
 
--- `!`, a place, a layer's text and a number
-abbrev pub marked_with : ℕ → List ℕ → ℕ → List ℕ
-marked_with place layer number = pieces (codes "! " ∷ decimal place ∷ codes " " ∷ layer ∷ codes " " ∷ decimal number ∷ [])
-
--- the text of a layer is its letter
+-- `!`, a place, a layer's letter and a number
 abbrev pub marked : ℕ → ℕ → ℕ → List ℕ
-marked place letter number = marked_with place (letter ∷ []) number
+marked place letter number = pieces (codes "! " ∷ decimal place ∷ codes " " ∷ (letter ∷ []) ∷ codes " " ∷ decimal number ∷ [])

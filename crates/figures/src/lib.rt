@@ -111,20 +111,14 @@ mod tests {
                 total,
                 percentage,
                 nanowatts,
-            } => match guarantee(Level::from_tenths(total).nanowatts(), percentage) {
-                Ok(found) => found == nanowatts,
-                Err(_) => false,
-            },
+            } => guarantee(Level::from_tenths(total).nanowatts(), percentage) == Ok(nanowatts),
             Figure::Split {
                 wants,
                 room,
                 grants,
             } => {
-                let mut claims = [claim(wants[0]), claim(wants[1]), claim(wants[2])];
-                split(&mut claims, room).is_ok()
-                    && claims[0].granted == grants[0]
-                    && claims[1].granted == grants[1]
-                    && claims[2].granted == grants[2]
+                let mut claims = wants.map(claim);
+                split(&mut claims, room).is_ok() && claims.map(|claim| claim.granted) == grants
             }
         }
     }

@@ -84,7 +84,7 @@ impl Level {
 fn in_tenths(decibels: i32, tenths: i32) -> i64
     ensures { result ≡ (level_of decibels tenths).tenths }
 {
-    10 * decibels as i64 + tenths as i64
+    10 * i64::from(decibels) + i64::from(tenths)
 }
 
 /// How many tenths a level from -60 dBm on stands above -60 dBm, one above 39.9 dBm as that does.
@@ -92,6 +92,7 @@ fn steps_up(tenths: i64) -> usize
     requires { negsuc 599 ≤ℤ tenths }
     ensures { result ≡ min (steps tenths) 999 }
 {
+    // Not negative, as no level here is below -60 dBm.
     (tenths.min(HIGHEST) - LOWEST) as usize
 }
 
@@ -123,6 +124,7 @@ fn at_step(step: usize) -> u64
     requires { step < 1000 }
     ensures { result ≡ scaled 100 mantissas step }
 {
+    // Below 10, as `step` is below 1000.
     mantissa_at(step % 100) / 10u64.pow(9 - (step / 100) as u32)
 }
 

@@ -2,14 +2,15 @@
 use Rattle.std.specs.Prelude.{ℕ, List, [], ◌∷◌, ◌++◌, codes, decimal}
 use Rattle.faults.specs.Faults.{layer_letter}
 use Rattle.faults.specs.Marks.{pieces, marked}
-use Rattle.settling.specs.declared.outcome.GroupPowers.{GroupPowers}
+use Rattle.sharing.specs.declared.groups.PerGroup.{PerGroup}
+use Rattle.settling.specs.declared.outcome.Power.{Power}
 use Rattle.lines.specs.declared.fault.PlayerFault.{PlayerFault}
 use Rattle.lines.specs.declared.line.Line.{Line}
 use Rattle.lines.specs.declared.line.Line.TheVariants.{Settled, Fault}
 use Rattle.lines.specs.PlayerFaults.{player_place, player_layer, player_number}
 
 -- a subframe, and what the master and then the secondary group wanted and was granted
-abbrev pub settled_words : ℕ → GroupPowers → List ℕ
+abbrev pub settled_words : ℕ → PerGroup Power → List ℕ
 settled_words subframe groups =
     pieces (decimal subframe ∷ codes " " ∷ decimal groups.master.wanted ∷ codes " " ∷ decimal groups.master.granted ∷ codes " " ∷ decimal groups.secondary.wanted ∷ codes " " ∷ decimal groups.secondary.granted ∷ [])
 

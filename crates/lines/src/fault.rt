@@ -1,11 +1,11 @@
 // What can go wrong while a recording is played: a record that cannot be read, or a call that the terminal refuses.
-ghost use Rattle.std.specs.Prelude.{◌≡◌};
+ghost use Rattle.std.specs.Prelude.{◌≡◌, false};
 ghost use Rattle.refusals.specs.Numbers.{number_of};
 ghost use Rattle.faults.specs.declared.Layer.TheVariants.{Terminal as TerminalLayer};
 ghost use Rattle.lines.specs.declared.fault.PlayerFault.TheVariants.{Record, Terminal};
 ghost use Rattle.lines.specs.PlayerFaults.{player_place, player_layer, player_number, player_ends_run};
 
-use faults::{Layer, RecordFault};
+use faults::{Fault, Layer, RecordFault};
 use refusals::Refusal;
 
 /// A call that the terminal refused, and the place of its record.
@@ -15,26 +15,30 @@ pub struct RefusedAt {
     pub refusal: Refusal,
 }
 
-impl RefusedAt {
-    /// The first byte of the record, counted from 0.
-    pub fn place(self) -> usize
-        ensures { result ≡ self.place }
-    {
+impl Fault for RefusedAt {
+    ghost place = { λ refused. refused.place };
+
+    ghost layer = { λ _. TerminalLayer };
+
+    ghost number = { λ refused. number_of refused.refusal };
+
+    ghost ends_run = { λ _. false };
+
+    fn place(self) -> usize {
         self.place
     }
 
-    /// Always the terminal's.
-    pub fn layer(self) -> Layer
-        ensures { result ≡ TerminalLayer }
-    {
+    fn layer(self) -> Layer {
         Layer::Terminal
     }
 
     /// The refusal's number, 1 to 9.
-    pub fn number(self) -> u8
-        ensures { result ≡ number_of self.refusal }
-    {
+    fn number(self) -> u8 {
         self.refusal.number()
+    }
+
+    fn ends_run(self) -> bool {
+        false
     }
 }
 
@@ -45,6 +49,7 @@ pub enum PlayerFault {
     Terminal(RefusedAt),
 }
 
+// Each of the two faults has its own `From`.
 impl From<RecordFault> for PlayerFault {
     ghost from_gives = { λ e r. r ≡ Record e };
 
@@ -61,44 +66,40 @@ impl From<RefusedAt> for PlayerFault {
     }
 }
 
-impl PlayerFault {
-    /// The first byte of the record, counted from 0.
-    pub fn place(self) -> usize
-        ensures { result ≡ player_place self }
-    {
+impl Fault for PlayerFault {
+    ghost place = { player_place };
+
+    ghost layer = { player_layer };
+
+    ghost number = { player_number };
+
+    ghost ends_run = { player_ends_run };
+
+    fn place(self) -> usize {
         match self {
             PlayerFault::Record(fault) => fault.place(),
             PlayerFault::Terminal(refused) => refused.place(),
         }
     }
 
-    /// The layer of the record's fault, or the terminal's.
-    pub fn layer(self) -> Layer
-        ensures { result ≡ player_layer self }
-    {
+    fn layer(self) -> Layer {
         match self {
             PlayerFault::Record(fault) => fault.layer(),
             PlayerFault::Terminal(refused) => refused.layer(),
         }
     }
 
-    /// The number of the record's fault, 10 to 13, or of the refusal, 1 to 9.
-    pub fn number(self) -> u8
-        ensures { result ≡ player_number self }
-    {
+    fn number(self) -> u8 {
         match self {
             PlayerFault::Record(fault) => fault.number(),
             PlayerFault::Terminal(refused) => refused.number(),
         }
     }
 
-    /// Whether nothing after the record can be read: 10, 11 and 12 end the run, and a refusal never does.
-    pub fn ends_run(self) -> bool
-        ensures { result ≡ player_ends_run self }
-    {
+    fn ends_run(self) -> bool {
         match self {
             PlayerFault::Record(fault) => fault.ends_run(),
-            PlayerFault::Terminal(_) => false,
+            PlayerFault::Terminal(refused) => refused.ends_run(),
         }
     }
 }

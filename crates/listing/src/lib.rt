@@ -5,5 +5,5 @@
 mod lines;
 mod printing;
 
-pub use lines::{fault_text, record_text};
+pub use lines::RecordLine;
 pub use printing::print_listing;

@@ -1,104 +1,159 @@
-// The text of a record and of a fault.
-ghost use Rattle.std.specs.Prelude.{◌≡◌, map, IfOk, string_bytes};
-ghost use Rattle.listing.specs.Lines.{fault_line, shown_byte, meant, record_line};
+// The line of a record.
+ghost use Rattle.std.specs.Prelude.{◌≡◌, Some};
+ghost use Rattle.std.specs.Fmt.{DisplaysOnOk};
+ghost use Rattle.recording.specs.declared.records.Record.TheVariants.{Shares, Want};
+ghost use Rattle.listing.specs.Lines.{shown_byte, shown_text, meant, bases_text, record_words, record_line};
 
-use faults::RecordFault;
 use recording::{Record, meaning};
-use std::alloc::{AllocError, Global};
-
-/// A fault: `!`, its place, its layer and its number.
-pub fn fault_text(heap: Global, fault: RecordFault) -> Result<String, AllocError>
-    ensures { IfOk result (λ t. string_bytes t ≡ fault_line fault) }
-{
-    let place = fault.place();
-    let letter = fault.layer().letter();
-    let number = fault.number();
-    format!(in heap; "! {place} {letter} {number}")
-}
+use std::fmt;
 
 fn shown_char(byte: u8) -> char
     ensures { result ≡ shown_byte byte }
 {
-    if byte >= 0x20 && byte <= 0x7e {
-        byte as char
-    } else {
-        '?'
+    match byte {
+        b' '..=b'~' => char::from(byte),
+        _ => '?',
     }
 }
 
 /// A note's text; a byte that is not printable is shown as `?`.
-fn note_text(heap: Global, text: &[u8]) -> Result<String, AllocError>
-    ensures { IfOk result (λ t. string_bytes t ≡ map shown_byte text.now) }
-{
-    let mut shown = String::new(heap);
-    for b in text {
-        shown.push(shown_char(*b))?;
+#[derive(Clone, Copy)]
+struct NoteText<'a>(&'a [u8]);
+
+impl fmt::Display for NoteText<'_> {
+    ghost output = { λ note. Some (shown_text note.0.now) };
+
+    fn fmt<W: fmt::Write>(&self, f: &mut fmt::Formatter<W>) -> fmt::Result {
+        for byte in self.0 {
+            f.write_char(shown_char(*byte))?;
+        }
+        Ok(())
     }
-    Ok(shown)
 }
 
-/// What a recorded number with 2000 added means, as text.
-fn meaning_text(heap: Global, recorded: u32) -> Result<String, AllocError>
-    ensures { IfOk result (λ t. string_bytes t ≡ meant recorded) }
-{
-    meaning(recorded).to_string(heap)
+/// What a recorded number with 2000 added means.
+#[derive(Clone, Copy)]
+struct Meant(u32);
+
+impl fmt::Display for Meant {
+    ghost output = { λ number. Some (meant number.0) };
+
+    fn fmt<W: fmt::Write>(&self, f: &mut fmt::Formatter<W>) -> fmt::Result {
+        let means = meaning(self.0);
+        write!(f, "{means}")
+    }
 }
 
-/// A record: its place, its name, and its numbers by name, those with 2000 added as what they mean.
-pub fn record_text(heap: Global, place: usize, record: Record) -> Result<String, AllocError>
-    ensures { IfOk result (λ t. string_bytes t ≡ record_line place «record».entry) }
+/// What a SET says after its cell and its loop kind: the maximum, both bases, and the path factor between them.
+fn write_bases<W: fmt::Write>(
+    f: &mut fmt::Formatter<W>,
+    maximum: u32,
+    data_base: u32,
+    path_factor: u32,
+    control_base: u32,
+) -> fmt::Result
+    ensures { DisplaysOnOk W.Write.write_str_gives f.old result (Some (bases_text maximum data_base path_factor control_base)) f.new }
 {
-    match record {
-        Record::Set {
-            cell,
-            loop_kind,
-            maximum,
-            data_base,
-            path_factor,
-            control_base,
-        } => {
-            let maximum = meaning_text(heap, maximum)?;
-            let front = format!(in heap;
-                "{place} SET cell {cell}, loop kind {loop_kind}, maximum {maximum}"
-            )?;
-            let data_base = meaning_text(heap, data_base)?;
-            let control_base = meaning_text(heap, control_base)?;
-            format!(in heap;
-                "{front}, data base {data_base}, path factor {path_factor}, control base {control_base}"
-            )
+    let maximum = Meant(maximum);
+    let data_base = Meant(data_base);
+    let control_base = Meant(control_base);
+    write!(
+        f,
+        ", maximum {maximum}, data base {data_base}, path factor {path_factor}, control base {control_base}"
+    )
+}
+
+fn write_shares<W: fmt::Write>(
+    f: &mut fmt::Formatter<W>,
+    total: u32,
+    master: u32,
+    secondary: u32,
+) -> fmt::Result
+    ensures { DisplaysOnOk W.Write.write_str_gives f.old result (Some (record_words (Shares total master secondary))) f.new }
+{
+    let total = Meant(total);
+    write!(
+        f,
+        "SHARES total {total}, master {master}, secondary {secondary}"
+    )
+}
+
+fn write_want<W: fmt::Write>(
+    f: &mut fmt::Formatter<W>,
+    cell: u32,
+    kind: u32,
+    class: u32,
+    size: u32,
+    format: u32,
+    offset: u32,
+) -> fmt::Result
+    ensures { DisplaysOnOk W.Write.write_str_gives f.old result (Some (record_words (Want cell kind class size format offset))) f.new }
+{
+    let offset = Meant(offset);
+    write!(f, "WANT cell {cell}, kind {kind}, class {class}")?;
+    write!(f, ", size {size}, format {format}, offset {offset}")
+}
+
+/// A record's name, and its numbers by name, those with 2000 added as what they mean.
+#[derive(Clone, Copy)]
+struct Words<'a>(Record<'a>);
+
+impl fmt::Display for Words<'_> {
+    ghost output = { λ words. Some (record_words words.0) };
+
+    fn fmt<W: fmt::Write>(&self, f: &mut fmt::Formatter<W>) -> fmt::Result {
+        match self.0 {
+            Record::Set {
+                cell,
+                loop_kind,
+                maximum,
+                data_base,
+                path_factor,
+                control_base,
+            } => {
+                write!(f, "SET cell {cell}, loop kind {loop_kind}")?;
+                write_bases(f, maximum, data_base, path_factor, control_base)
+            }
+            Record::Shares {
+                total,
+                master,
+                secondary,
+            } => write_shares(f, total, master, secondary),
+            Record::Loss { cell, loss } => write!(f, "LOSS cell {cell}, loss {loss}"),
+            Record::Command {
+                cell,
+                channel,
+                code,
+            } => write!(f, "COMMAND cell {cell}, channel {channel}, code {code}"),
+            Record::Open => write!(f, "OPEN"),
+            Record::Want {
+                cell,
+                kind,
+                class,
+                size,
+                format,
+                offset,
+            } => write_want(f, cell, kind, class, size, format, offset),
+            Record::Settle => write!(f, "SETTLE, GROUPS, DONE"),
+            Record::Drop => write!(f, "DROP"),
+            Record::Note { text } => write!(f, "NOTE {}", NoteText(text)),
         }
-        Record::Shares {
-            total,
-            master,
-            secondary,
-        } => {
-            let total = meaning_text(heap, total)?;
-            format!(in heap; "{place} SHARES total {total}, master {master}, secondary {secondary}")
-        }
-        Record::Loss { cell, loss } => format!(in heap; "{place} LOSS cell {cell}, loss {loss}"),
-        Record::Command {
-            cell,
-            channel,
-            code,
-        } => format!(in heap; "{place} COMMAND cell {cell}, channel {channel}, code {code}"),
-        Record::Open => format!(in heap; "{place} OPEN"),
-        Record::Want {
-            cell,
-            kind,
-            class,
-            size,
-            format,
-            offset,
-        } => {
-            let front = format!(in heap; "{place} WANT cell {cell}, kind {kind}, class {class}")?;
-            let offset = meaning_text(heap, offset)?;
-            format!(in heap; "{front}, size {size}, format {format}, offset {offset}")
-        }
-        Record::Settle => format!(in heap; "{place} SETTLE, GROUPS, DONE"),
-        Record::Drop => format!(in heap; "{place} DROP"),
-        Record::Note { text } => {
-            let text = note_text(heap, text)?;
-            format!(in heap; "{place} NOTE {text}")
-        }
+    }
+}
+
+/// The line of a record at a place: the place, and what the record says.
+#[derive(Clone, Copy)]
+pub struct RecordLine<'a> {
+    pub place: usize,
+    pub record: Record<'a>,
+}
+
+impl fmt::Display for RecordLine<'_> {
+    ghost output = { λ line. Some (record_line line.place line.«record») };
+
+    fn fmt<W: fmt::Write>(&self, f: &mut fmt::Formatter<W>) -> fmt::Result {
+        let place = self.place;
+        let words = Words(self.record);
+        write!(f, "{place} {words}")
     }
 }

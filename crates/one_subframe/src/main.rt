@@ -16,7 +16,7 @@ const MASTER_PERCENTAGE: u32 = 50;
 const SECONDARY_PERCENTAGE: u32 = 50;
 
 /// What each group wants in classes 1 to 4, in nanowatts.
-const WANTS: [PerGroup; 4] = [
+const WANTS: [PerGroup<u64>; 4] = [
     PerGroup {
         master: 0,
         secondary: 158_489_319,
@@ -62,12 +62,7 @@ fn run(rt: &HostRuntime) -> anyhow::Result<()> {
     )
 }
 
-fn name(group: Group) -> &'static str {
-    match group {
-        Group::Master => "master",
-        Group::Secondary => "secondary",
-    }
-}
+// Each print function takes just what it prints; a struct of all of it would hide that.
 
 fn print_budget(rt: &HostRuntime, level: Level, shares: &Shares) -> anyhow::Result<()> {
     let decibels = level.tenths() / 10;
@@ -91,7 +86,7 @@ fn print_wants(rt: &HostRuntime, ranks: &[Rank; 8]) -> anyhow::Result<()> {
     println!(rt; "Wants in order of rank, the lowest last")?;
     for rank in ranks {
         let class = rank.class.number();
-        let group = name(rank.group);
+        let group = rank.group;
         let want = rank.want;
         println!(rt; "  class {class}  {group:<9}  {want:>9}")?;
     }
@@ -136,7 +131,7 @@ fn print_sharing<R: HoldingRule>(
 fn print_ranks(
     rt: &HostRuntime,
     shares: &Shares,
-    reserves: PerGroup,
+    reserves: PerGroup<u64>,
     ranks: &[Rank; 8],
 ) -> anyhow::Result<()> {
     let total = shares.total;
@@ -146,7 +141,7 @@ fn print_ranks(
     let mut granted = PerGroup::NONE;
     for rank in ranks {
         let class = rank.class.number();
-        let group = name(rank.group);
+        let group = rank.group;
         let own = granted.of(rank.group);
         let rival = rank.group.rival();
         let kept = granted.of(rival).max(reserves.of(rival));
@@ -175,14 +170,13 @@ fn print_verdict(
     sharing: &Sharing,
     group: Group,
 ) -> anyhow::Result<()> {
-    let title = name(group);
     let total = shares.total;
     let guarantee = shares.guarantees.of(group);
     let wanted = sharing.demand.wanted.of(group);
     let granted = sharing.granted.of(group);
     let claim = sharing.demand.claims.of(group);
     let both = wanted.saturating_add(claim);
-    println!(rt; "  Group {title}: wanted {wanted}, granted {granted}")?;
+    println!(rt; "  Group {group}: wanted {wanted}, granted {granted}")?;
     if wanted <= guarantee {
         println!(rt; "    met: it wants at most its guarantee, {wanted} <= {guarantee}")?;
     } else if sharing.demand.fits(*shares, group) {

@@ -1,5 +1,5 @@
 -- A recording played turn by turn.
-use Rattle.std.proofs.Common.{◌≡◌, ℕ, zero, suc, ◌+◌, ◌<◌, ◌≤◌, Bool, true, false, cond, List, [], ◌++◌, length, is_some, Some, None, Ok, Err, Option, Result, sym, refl, ap, ◌∙◌, subst, append_assoc, append-nil, arith}
+use Rattle.std.proofs.Common.{◌≡◌, ℕ, zero, suc, ◌+◌, ◌<◌, ◌≤◌, Bool, true, false, cond, List, [], ◌++◌, length, Some, None, Ok, Err, Option, Result, sym, refl, ap, ◌∙◌, subst, append_assoc, append-nil, arith}
 use Rattle.faults.specs.declared.RecordFault.{RecordFault}
 use Rattle.lines.specs.declared.line.Line.{Line}
 use Rattle.recording.specs.Contents.{Content}
@@ -7,19 +7,8 @@ use Rattle.recording.specs.declared.records.Record.{Record}
 use Rattle.recording.specs.Records.{body_read}
 use Rattle.recording.specs.Reading.{next_answer, next_offset, Forward, NextExactly}
 use Rattle.states.specs.declared.state.State.{State}
-use Rattle.states.specs.declared.state.Subframe.{Subframe}
-use Rattle.states.specs.declared.state.Subframe.TheVariants as subframe
 use Rattle.states.specs.States.{fresh, is_open}
-use Rattle.player.specs.Played.{ticket_for, ticket_of, InPlace, item_lines, item_played, item_ends, lines_from, lines_of}
-
--- the player holds a ticket exactly where a subframe is open
-holds_open : (f : Subframe) (n : ℕ) → is_some (ticket_for f n) ≡ is_open f
-holds_open subframe.Idle n = refl
-holds_open (subframe.Open ws) n = refl
-holds_open (subframe.Settled ws o) n = refl
-
-pub held_is_open : (s : State) (b : Bool) (t : _) → t ≡ ticket_of s → b ≡ is_some t → b ≡ is_open s.subframe
-held_is_open s b t mine e = e ∙ (ap is_some mine ∙ holds_open s.subframe s.settled)
+use Rattle.player.specs.Played.{InPlace, item_lines, item_played, item_ends, lines_from, lines_of}
 
 -- what the reader hands out is in place
 pub in_place : (bytes : List ℕ) (at : ℕ) (o p : Bool) (read : Result Content RecordFault) (after : ℕ) → o ≡ p → NextExactly bytes at o (Some read) after → InPlace p read

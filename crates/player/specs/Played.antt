@@ -1,8 +1,11 @@
 -- A recording played on a terminal, record by record.
-use Rattle.std.specs.Prelude.{◌≡◌, ℕ, zero, suc, ◌+◌, Bool, false, cond, List, [], ◌∷◌, ◌++◌, length, Some, None, Ok, Err, Option, Result}
+use Rattle.std.specs.Prelude.{◌≡◌, ℕ, zero, suc, ◌+◌, Bool, true, false, cond, List, [], ◌∷◌, ◌++◌, length, Some, None, Ok, Err, Option, Result}
+use Rattle.std.specs.declared.ops.ControlFlow.{ControlFlow}
+use Rattle.std.specs.declared.ops.ControlFlow.TheVariants.{Continue, Break}
 use Rattle.std.specs.Option.{option_to_list}
 use Rattle.faults.specs.declared.RecordFault.{RecordFault}
 use Rattle.faults.specs.Faults.{ends_run, no_open_subframe}
+use Rattle.refusals.specs.declared.Refusal.{Refusal}
 use Rattle.lines.specs.declared.line.Line.{Line}
 use Rattle.lines.specs.declared.line.Line.TheVariants.{Settled, Fault}
 use Rattle.lines.specs.declared.fault.PlayerFault.TheVariants.{Record, Terminal}
@@ -13,7 +16,8 @@ use Rattle.states.specs.declared.state.State.{State}
 use Rattle.states.specs.declared.state.Subframe.{Subframe}
 use Rattle.states.specs.declared.state.Subframe.TheVariants as subframe
 use Rattle.states.specs.States.{fresh, is_open}
-use Rattle.terminal.specs.declared.tickets.OpenTicket.{OpenTicket}
+use Rattle.terminal.specs.declared.tickets.Open.{Open}
+use Rattle.terminal.specs.declared.tickets.Ticket.{Ticket}
 use Rattle.terminal.specs.declared.call.Call.{Call}
 use Rattle.terminal.specs.declared.call.Answer.{Answer}
 use Rattle.terminal.specs.declared.call.Answer.TheVariants as says
@@ -22,23 +26,28 @@ use Rattle.terminal.specs.Runs.{answers, at_end}
 use Rattle.player.specs.Recorded.{calls_for}
 
 -- the ticket of the open subframe, if there is one
-abbrev pub ticket_for : Subframe → ℕ → Option OpenTicket
+abbrev pub ticket_for : Subframe → ℕ → Option (Ticket Open)
 ticket_for subframe.Idle n = None
 ticket_for (subframe.Open ws) n = Some (open_ticket n)
 ticket_for (subframe.Settled ws o) n = None
 
-abbrev pub ticket_of : State → Option OpenTicket
+abbrev pub ticket_of : State → Option (Ticket Open)
 ticket_of s = ticket_for s.subframe s.settled
 
 -- The lines of a record at a place: a refused call is a fault there, what GROUPS answers is a line of the subframe n, and nothing else is shown.
-abbrev pub line_for : (place n : ℕ) → Answer → List Line
-line_for place n (says.Refused e) = Fault (Terminal (record { place = place; refusal = e })) ∷ []
-line_for place n says.Accepted = []
-line_for place n (says.Opened m) = []
-line_for place n (says.Settled m) = []
-line_for place n (says.Groups g) = Settled n g ∷ []
+abbrev pub line_for : (place n : ℕ) → Result Answer Refusal → List Line
+line_for place n (Err e) = Fault (Terminal (record { place = place; refusal = e })) ∷ []
+line_for place n (Ok says.Accepted) = []
+line_for place n (Ok (says.Opened m)) = []
+line_for place n (Ok (says.Settled m)) = []
+line_for place n (Ok (says.Groups g)) = Settled n g ∷ []
 
-abbrev pub lines_for : (place n : ℕ) → List Answer → List Line
+-- what a call says that gives nothing
+abbrev pub said : Result Unit Refusal → Result Answer Refusal
+said (Ok u) = Ok says.Accepted
+said (Err e) = Err e
+
+abbrev pub lines_for : (place n : ℕ) → List (Result Answer Refusal) → List Line
 lines_for place n [] = []
 lines_for place n (a ∷ more) = line_for place n a ++ lines_for place n more
 
@@ -57,11 +66,19 @@ abbrev pub last_line : Option RecordFault → List Line
 last_line None = []
 last_line (Some fault) = Fault (Record fault) ∷ []
 
+-- a turn of the player: its line, if it has one, and whether the run ends with it
+abbrev pub line_in : ControlFlow Line (Option Line) → Option Line
+line_in (Continue line) = line
+line_in (Break line) = Some line
+
+abbrev pub is_last : ControlFlow Line (Option Line) → Bool
+is_last (Continue line) = false
+is_last (Break line) = true
+
 module _ {V : Type 0} (reserve : V → ℕ → ℕ → ℕ) where
-  -- Some calls of a record at a place were made: what they left of state and rule, the ticket of the open subframe, and their line.
-  pub record PlaysCalls (place : ℕ) (calls : List Call) (w after : State × V) (ticket : Option OpenTicket) (line : Option Line) : Type 0 where
+  -- Some calls of a record at a place were made: what they left of state and rule, and their line.
+  pub record PlaysCalls (place : ℕ) (calls : List Call) (w after : State × V) (line : Option Line) : Type 0 where
     pub leaves : after ≡ at_end reserve w calls
-    pub keeps_ticket : ticket ≡ ticket_of after.0
     pub shows : option_to_list line ≡ lines_for place w.0.settled (answers reserve w calls)
 
   -- a record played: its calls are made with the ticket of the open subframe, which bears the number of settled ones
@@ -71,8 +88,8 @@ module _ {V : Type 0} (reserve : V → ℕ → ℕ → ℕ) where
   abbrev pub record_lines : ℕ → State × V → Content → List Line
   record_lines place w c = lines_for place w.0.settled (answers reserve w (calls_for w.0.settled c))
 
-  abbrev pub PlaysRecord : ℕ → Content → (w after : State × V) → Option OpenTicket → Option Line → Type 0
-  PlaysRecord place c w after ticket line = PlaysCalls place (calls_for w.0.settled c) w after ticket line
+  abbrev pub PlaysRecord : ℕ → Content → (w after : State × V) → Option Line → Type 0
+  PlaysRecord place c w after line = PlaysCalls place (calls_for w.0.settled c) w after line
 
   -- The lines of some records that stand one after another from a place on. W, E and X where no subframe is open are faults (13).
   abbrev pub lines_of_records : State × V → ℕ → List Content → List Line
@@ -91,11 +108,10 @@ module _ {V : Type 0} (reserve : V → ℕ → ℕ → ℕ) where
   item_played w (Ok c) = played w c
   item_played w (Err fault) = w
 
-  pub record PlaysItem (place : ℕ) (read : Result Content RecordFault) (w after : State × V) (ticket : Option OpenTicket) (line : Option Line) (ends : Bool) : Type 0 where
+  pub record PlaysItem (place : ℕ) (read : Result Content RecordFault) (w after : State × V) (turn : ControlFlow Line (Option Line)) : Type 0 where
     pub leaves : after ≡ item_played w read
-    pub keeps_ticket : ticket ≡ ticket_of after.0
-    pub shows : option_to_list line ≡ item_lines place w read
-    pub ends_where : ends ≡ item_ends read
+    pub shows : option_to_list (line_in turn) ≡ item_lines place w read
+    pub ends_where : is_last turn ≡ item_ends read
 
   -- the lines of the bytes from an offset on, read at most k times
   abbrev pub lines_from : ℕ → State × V → List ℕ → ℕ → List Line

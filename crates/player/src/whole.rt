@@ -3,51 +3,14 @@ ghost use Rattle.std.specs.Prelude.{◌≡◌, ◌+◌, ◌<◌, ◌≤◌, ◌+
 ghost use Rattle.std.specs.Option.{option_to_list};
 ghost use Rattle.std.specs.List.{flat_map};
 ghost use Rattle.lines.specs.Text.{line_bytes};
-ghost use Rattle.recording.specs.Records.{body_read};
-ghost use Rattle.states.specs.States.{is_open};
-ghost use Rattle.player.specs.Played.{ticket_of, InPlace, PlaysItem, lines_of, LinesOfTheRecords};
+ghost use Rattle.player.specs.Played.{lines_of, LinesOfTheRecords};
 
-use crate::record::{Played, play_record};
-use lines::{Line, PlayerFault, transcript};
-use recording::{Reader, Record, RecordFault};
+use crate::record::Playing;
+use lines::{Line, transcript};
+use recording::Reader;
 use sharing::HoldingRule;
 use std::alloc::{AllocError, Global};
-use terminal::{OpenTicket, Terminal};
-
-/// What a record or its fault leaves, and whether the run ends there.
-struct Turn {
-    ticket: Option<OpenTicket>,
-    line: Option<Line>,
-    ends: bool,
-}
-
-/// Plays what was read at a place.
-fn play_item<R: HoldingRule>(
-    terminal: &mut Terminal<R>,
-    ticket: Option<OpenTicket>,
-    place: usize,
-    item: Result<Record, RecordFault>,
-) -> Turn
-    requires mine { ticket ≡ ticket_of terminal.old.state }
-    requires in_place { InPlace (is_open terminal.old.state.subframe) (body_read item) }
-    ensures { PlaysItem R.reserve place (body_read item.entry) (terminal.old.state, terminal.old.rule) (terminal.new.state, terminal.new.rule) result.ticket result.line result.ends }
-{
-    match item {
-        Ok(record) => {
-            let Played { ticket, line } = play_record(terminal, ticket, place, record);
-            Turn {
-                ticket,
-                line,
-                ends: false,
-            }
-        }
-        Err(fault) => Turn {
-            ticket,
-            line: Some(Line::Fault(PlayerFault::from(fault))),
-            ends: fault.ends_run(),
-        },
-    }
-}
+use std::ops::ControlFlow;
 
 /// Adds a line, if there is one, to lines that have room for it.
 fn add(lines: &mut Vec<Line>, line: Option<Line>)
@@ -61,13 +24,6 @@ fn add(lines: &mut Vec<Line>, line: Option<Line>)
     }
 }
 
-/// Drops the subframe that is open, if one is.
-fn end<R: HoldingRule + Drop>(mut terminal: Terminal<R>, ticket: Option<OpenTicket>) {
-    if let Some(ticket) = ticket {
-        let _ = terminal.drop_subframe(ticket);
-    }
-}
-
 /// The lines of a recording, played on a fresh terminal under a holding rule. A subframe that is open at the end is dropped.
 pub fn play<R: HoldingRule + Drop>(
     heap: Global,
@@ -77,25 +33,23 @@ pub fn play<R: HoldingRule + Drop>(
     ensures lines { IfOk result (λ v. v.items ≡ lines_of R.reserve rule recording.now) }
     ensures lines_of_the_records { LinesOfTheRecords R.reserve rule recording.now }
 {
+    // Room for every line is asked for before anything is played: no line is lost for want of memory later.
     let mut lines = Vec::with_capacity(heap, recording.len())?;
-    let mut terminal = Terminal::new(rule);
-    let mut ticket = None;
+    let mut playing = Playing::new(rule);
     let mut reader = Reader::new(recording);
     let mut place = 0;
-    while let Some(item) = reader.next(ticket.is_some()) {
-        let Turn {
-            ticket: left,
-            line,
-            ends,
-        } = play_item(&mut terminal, ticket, place, item);
-        ticket = left;
-        add(&mut lines, line);
-        if ends {
-            break;
+    // No `for`: each call of `next` is told whether a subframe is open.
+    while let Some(item) = reader.next(playing.is_open()) {
+        match playing.item(place, item) {
+            ControlFlow::Continue(line) => add(&mut lines, line),
+            ControlFlow::Break(line) => {
+                add(&mut lines, Some(line));
+                break;
+            }
         }
         place = reader.place();
     }
-    end(terminal, ticket);
+    let _ended = playing.end();
     Ok(lines)
 }
 

@@ -165,7 +165,7 @@ module _ (place : ℕ) where
   kind_view : (letter : ℕ) (bs : List ℕ) → Bytes bs → (found : Option RecordKind) → kind_with letter ≡ found → BodyView (letter ∷ bs) (of_kind place found bs)
   kind_view letter bs byte (Some kind) e = subst (λ l. BodyView (l ∷ bs) (after_letter place kind (numbers_of kind) bs)) (sym (letter_is letter kind e)) (letter_view kind bs byte (numbers_of kind) refl)
   kind_view letter bs byte None e =
-      bad (inr (inl (record { letter = letter; tail = bs; parts = refl; unknown = λ kind is. (let k = sym e ∙ ap kind_with is ∙ by_letter kind in let z : ◌≡◌ {A = ℕ} 0 1 = cc in omega arith) })))
+      bad (inr (inl (record { letter = letter; tail = bs; parts = refl; unknown = λ kind is. (let k = sym e ∙ ap kind_with is ∙ by_letter kind in cc) })))
 
   pub body_view : (body : List ℕ) → Bytes body → BodyView body (body_at place body)
   body_view [] byte = bad (inl refl)

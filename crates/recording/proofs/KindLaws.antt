@@ -1,5 +1,5 @@
 -- A kind is known by its letter.
-use Rattle.std.proofs.Common.{◌≡◌, ℕ, Some, None, Option, sym, refl, ap, ◌∙◌, ⊎_elim, arith}
+use Rattle.std.proofs.Common.{◌≡◌, ℕ, Some, None, Option, sym, refl, ap, ◌∙◌, ⊎_elim}
 use Rattle.std.proofs.lemmas.Bool.{eq-eqb, ne_eqb, cases_eq, cond-true, cond-false}
 use Rattle.recording.specs.declared.kinds.RecordKind.{RecordKind}
 use Rattle.recording.specs.declared.kinds.RecordKind.TheVariants.{Set, Shares, Loss, Command, Open, Want, Settle, Drop, Note}
@@ -18,7 +18,7 @@ by_letter Note = refl
 
 module _ (letter : ℕ) (kind : RecordKind) where
   not_none : None ≡ Some kind → letter ≡ letter_of kind
-  not_none e = let z : ◌≡◌ {A = ℕ} 0 1 = cc in absurd (omega arith)
+  not_none e = cc
 
   one_kind : (first : RecordKind) (others : Option RecordKind) → (others ≡ Some kind → letter ≡ letter_of kind) → if_letter letter first others ≡ Some kind → letter ≡ letter_of kind
   one_kind first others later e =
@@ -38,12 +38,12 @@ no_kind letter unknown (Some kind) e = absurd (unknown kind (letter_is letter ki
 
 -- only a note has no numbers
 pub only_note : (kind : RecordKind) → numbers_of kind ≡ None → kind ≡ Note
-only_note Set e = let z : ◌≡◌ {A = ℕ} 0 1 = cc in absurd (omega arith)
-only_note Shares e = let z : ◌≡◌ {A = ℕ} 0 1 = cc in absurd (omega arith)
-only_note Loss e = let z : ◌≡◌ {A = ℕ} 0 1 = cc in absurd (omega arith)
-only_note Command e = let z : ◌≡◌ {A = ℕ} 0 1 = cc in absurd (omega arith)
-only_note Open e = let z : ◌≡◌ {A = ℕ} 0 1 = cc in absurd (omega arith)
-only_note Want e = let z : ◌≡◌ {A = ℕ} 0 1 = cc in absurd (omega arith)
-only_note Settle e = let z : ◌≡◌ {A = ℕ} 0 1 = cc in absurd (omega arith)
-only_note Drop e = let z : ◌≡◌ {A = ℕ} 0 1 = cc in absurd (omega arith)
+only_note Set e = cc
+only_note Shares e = cc
+only_note Loss e = cc
+only_note Command e = cc
+only_note Open e = cc
+only_note Want e = cc
+only_note Settle e = cc
+only_note Drop e = cc
 only_note Note e = refl

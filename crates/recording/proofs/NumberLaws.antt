@@ -14,7 +14,7 @@ Bytes bs = (i : ℕ) → get_or bs i 0 < 256
 
 -- a number and a fault are never one
 pub differs : (x : NumberRead) (n : ℕ) (rest : List ℕ) (fault : NumberFault) → x ≡ fails fault → x ≡ got n rest → ⊥
-differs x n rest fault p q = let z : ◌≡◌ {A = ℕ} 0 1 = cc in omega arith
+differs x n rest fault p q = cc
 
 pub one_group : (k n : ℕ) → n < 128 → shortest_in (suc k) n ≡ n ∷ []
 one_group k n h = cond-true _ _ _ (lt-ltb n 128 h)
@@ -174,3 +174,7 @@ module _ (place : ℕ) where
     cut_number = record { only = cut_only 5 bs; always = cut_fails bs };
     no_number = record { only = no_number bs; always = none_fails bs byte };
   }
+
+-- what is read there is what the bytes have
+pub exactly_read : (place : ℕ) (bs : List ℕ) → Bytes bs → (r : NumberRead) → r ≡ number_at place bs → ReadExactly place bs r
+exactly_read place bs byte r e = subst (ReadExactly place bs) (sym e) (read_exactly place bs byte)

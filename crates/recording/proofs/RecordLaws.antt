@@ -5,17 +5,13 @@ use Rattle.std.proofs.lemmas.List.{take_at, drop_at, length-take-le}
 use Rattle.std.proofs.lemmas.Bool.{lt-ltb, le-ltb, cases_lt, cond-true, cond-false}
 use Rattle.faults.specs.declared.RecordFault.{RecordFault}
 use Rattle.faults.specs.Faults.{fault_number, truncated_number, malformed_number, truncated, malformed, bad_body, EndsRun}
-use Rattle.recording.specs.Numbers.{NumberRead, got, shortest, IllFormedNumber}
+use Rattle.recording.specs.Numbers.{NumberRead, shortest, IllFormedNumber}
 use Rattle.recording.specs.Kinds.{letter_of}
 use Rattle.recording.specs.Contents.{Content, body_bytes}
 use Rattle.recording.specs.Conditions.{Stands, HasBody, InBody, NumberDue, EndsEarly, IllFormed, UnfitBody}
 use Rattle.recording.specs.Records.{RecordOutcome, whole, refused, RecordExactly, followed, body_at, after_length, record_at}
 use Rattle.recording.proofs.NumberLaws.{Bytes, NumberView, begins, cut, none, number_view, reads_there, cut_fails, none_fails}
 use Rattle.recording.proofs.BodyLaws.{bytes_after, bytes_before, BodyView, says, ends, fails_at, bad, body_view, body_says, body_stops, body_bad}
-
-abbrev answer_number : RecordOutcome → ℕ
-answer_number (whole c rest) = 0
-answer_number (refused fault) = fault_number fault
 
 module _ (place : ℕ) where
   pub data RecordView (bs : List ℕ) : RecordOutcome → Type 0 where
@@ -100,30 +96,30 @@ module _ (place : ℕ) where
       let same : d ≡ c = cc in
       let after : left ≡ rest = cc in
       subst (λ x. Stands x rest bs) same (subst (λ x. Stands d x bs) after s)
-  only_whole bs c rest (cut_short w) e = absurd (omega (arith, ap answer_number e))
-  only_whole bs c rest (no_number w) e = absurd (omega (arith, ap answer_number e))
-  only_whole bs c rest (bad_form w) e = absurd (omega (arith, ap answer_number e))
+  only_whole bs c rest (cut_short w) e = cc
+  only_whole bs c rest (no_number w) e = cc
+  only_whole bs c rest (bad_form w) e = cc
 
   only_truncated : (bs : List ℕ) → {r : RecordOutcome} → RecordView bs r → r ≡ refused (truncated place) → EndsEarly bs
-  only_truncated bs (reads c rest s) e = absurd (omega (arith, ap answer_number e))
+  only_truncated bs (reads c rest s) e = cc
   only_truncated bs (cut_short w) e = w
-  only_truncated bs (no_number w) e = absurd (omega (arith, ap answer_number e))
-  only_truncated bs (bad_form w) e = absurd (omega (arith, ap answer_number e))
+  only_truncated bs (no_number w) e = let same : malformed place ≡ truncated place = cc in absurd (omega (arith, ap fault_number same))
+  only_truncated bs (bad_form w) e = cc
 
   only_malformed : (bs : List ℕ) → {r : RecordOutcome} → RecordView bs r → r ≡ refused (malformed place) → IllFormed bs
-  only_malformed bs (reads c rest s) e = absurd (omega (arith, ap answer_number e))
-  only_malformed bs (cut_short w) e = absurd (omega (arith, ap answer_number e))
+  only_malformed bs (reads c rest s) e = cc
+  only_malformed bs (cut_short w) e = let same : truncated place ≡ malformed place = cc in absurd (omega (arith, ap fault_number same))
   only_malformed bs (no_number w) e = w
-  only_malformed bs (bad_form w) e = absurd (omega (arith, ap answer_number e))
+  only_malformed bs (bad_form w) e = cc
 
   only_bad_body : (bs : List ℕ) → {r : RecordOutcome} → RecordView bs r → r ≡ refused (bad_body place) → UnfitBody bs
-  only_bad_body bs (reads c rest s) e = absurd (omega (arith, ap answer_number e))
-  only_bad_body bs (cut_short w) e = absurd (omega (arith, ap answer_number e))
-  only_bad_body bs (no_number w) e = absurd (omega (arith, ap answer_number e))
+  only_bad_body bs (reads c rest s) e = cc
+  only_bad_body bs (cut_short w) e = cc
+  only_bad_body bs (no_number w) e = cc
   only_bad_body bs (bad_form w) e = w
 
   one_of_three : (bs : List ℕ) (fault : RecordFault) → {r : RecordOutcome} → RecordView bs r → r ≡ refused fault → EndsRun place fault
-  one_of_three bs fault (reads c rest s) e = let z : ◌≡◌ {A = ℕ} 0 1 = cc in absurd (omega arith)
+  one_of_three bs fault (reads c rest s) e = cc
   one_of_three bs fault (cut_short w) e = inl (cc)
   one_of_three bs fault (no_number w) e = inr (inl (cc))
   one_of_three bs fault (bad_form w) e = inr (inr (cc))
@@ -137,10 +133,6 @@ module _ (place : ℕ) where
     no_other_fault = λ fault. one_of_three bs fault view;
   }
 
-  -- what `read_record` does
-  pub too_short : (n : ℕ) (rest : List ℕ) → length rest < n → refused (truncated place) ≡ after_length place (got n rest)
-  too_short n rest h = sym (cond-true _ _ _ (lt-ltb (length rest) n h))
-
-  pub body_parted : (n : ℕ) (left body rest : List ℕ) (r : Result Content RecordFault) → n ≤ length left → body ≡ take n left → rest ≡ drop n left → r ≡ body_at place body → followed r rest ≡ after_length place (got n left)
-  body_parted n left body rest r h front back e =
-      ap (λ x. followed x rest) (e ∙ ap (body_at place) front) ∙ ap (followed (body_at place (take n left))) back ∙ sym (cond-false _ _ _ (le-ltb (length left) n h))
+-- what is read there is what the bytes have
+pub exactly_there : (place : ℕ) (bs : List ℕ) → Bytes bs → (r : RecordOutcome) → r ≡ record_at place bs → RecordExactly place bs r
+exactly_there place bs byte r e = subst (RecordExactly place bs) (sym e) (record_exactly place bs byte)

@@ -54,9 +54,6 @@ pub record SoFar (bs : List ℕ) (at : ℕ) (o : Bool) (records faults : ℕ) : 
   pub in_place : records + misplaced false cs ≡ length cs
   pub missed : faults ≡ misplaced false cs
 
-pub nothing_yet : (bs : List ℕ) → SoFar bs 0 false 0 0
-nothing_yet bs = record { cs = []; recordable = tt; front = refl; is = refl; state = refl; in_place = refl; missed = refl }
-
 module _ (bs : List ℕ) (at : ℕ) (o : Bool) (records faults : ℕ) (v : SoFar bs at o records faults) (c : Content) (s : StandsAt bs at c) where
   next_front : take (at + length (record_bytes c)) bs ≡ flat_map record_bytes (v.cs ++ c ∷ [])
   next_front =
@@ -176,8 +173,7 @@ no_record : (at : ℕ) (bs : List ℕ) (e : Option RecordFault) (c : Content) (r
 no_record at bs None c rest byte x a is = omega (arith, ap length (sym x ∙ is), length-append (record_bytes c) rest, some_bytes c)
 no_record at bs (Some fault) c rest byte x a is =
     let e = sym (fault_there at bs fault byte x.1) ∙ reads_whole at c rest bs (a, is) in
-    let z : ◌≡◌ {A = ℕ} 0 1 = cc in
-    omega arith
+    cc
 
 same_first : (c d : Content) (xs ys : List ℕ) → Recordable c → Recordable d → record_bytes c ++ xs ≡ record_bytes d ++ ys → (c ≡ d) × (xs ≡ ys)
 same_first c d xs ys a b e =

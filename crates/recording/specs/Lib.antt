@@ -1,6 +1,7 @@
 pub mod Exactly
 pub mod Numbers
 pub mod Kinds
+pub mod Letters
 pub mod Contents
 pub mod Conditions
 pub mod Records

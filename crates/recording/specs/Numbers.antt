@@ -2,7 +2,7 @@
 use Rattle.std.specs.Prelude.{◌≡◌, ℕ, zero, suc, ◌+◌, ◌-◌, ◌*◌, ◌/◌, ◌%◌, ◌^◌, ◌<◌, ◌≤◌, cond, List, [], ◌∷◌, ◌++◌, length, Ok, Err, Result, ◌==◌, nat_le, nat_lt}
 use Rattle.std.specs.List.{AllByRecursion}
 use Rattle.faults.specs.declared.NumberFault.{NumberFault}
-use Rattle.recording.specs.declared.numbers.Number.{Number}
+use Rattle.recording.specs.declared.parsed.Parsed.{Parsed}
 use Rattle.faults.specs.Faults.{truncated_number, malformed_number}
 use Rattle.recording.specs.Exactly.{Exactly}
 
@@ -54,7 +54,7 @@ pub data NumberRead : Type 0 where
   got : ℕ → List ℕ → NumberRead
   fails : NumberFault → NumberRead
 
-abbrev pub number_read : Result Number NumberFault → NumberRead
+abbrev pub number_read : Result (Parsed ℕ) NumberFault → NumberRead
 number_read (Ok n) = got n.value n.rest.now
 number_read (Err fault) = fails fault
 

@@ -1,5 +1,6 @@
 -- The record at the front of some bytes: what is read of it.
-use Rattle.std.specs.Prelude.{◌≡◌, ℕ, zero, suc, Bool, true, cond, ◌&&◌, List, [], ◌∷◌, length, take, drop, Some, None, Ok, Err, Option, Result, nat_le, nat_lt}
+use Rattle.std.specs.Prelude.{◌≡◌, ℕ, zero, suc, Bool, cond, ◌&&◌, List, [], ◌∷◌, length, take, drop, Some, None, Ok, Err, Option, Result, nat_le, nat_lt}
+use Rattle.std.specs.List.{list_all}
 use Rattle.faults.specs.declared.RecordFault.{RecordFault}
 use Rattle.faults.specs.declared.RecordFault.TheVariants.{Number}
 use Rattle.recording.specs.declared.kinds.RecordKind.{RecordKind}
@@ -34,9 +35,9 @@ numbers_at place zero [] = Ok []
 numbers_at place zero (b ∷ bytes) = Err (bad_body place)
 numbers_at place (suc k) bytes = elim (number_at place bytes) [ got n rest ↦ put_first n (numbers_at place k rest) | fails fault ↦ Err (Number fault) ]
 
+-- each byte is a printable character of ASCII
 abbrev pub is_printable : List ℕ → Bool
-is_printable [] = true
-is_printable (b ∷ bytes) = (nat_le 0x20 b && nat_le b 0x7E) && is_printable bytes
+is_printable bytes = list_all (λ b. nat_le 0x20 b && nat_le b 0x7E) bytes
 
 abbrev pub text_at : ℕ → List ℕ → Result Content RecordFault
 text_at place bytes = cond (is_printable bytes) (Ok (noted bytes)) (Err (bad_body place))

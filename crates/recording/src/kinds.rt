@@ -1,9 +1,9 @@
 // The kinds of record.
 ghost use Rattle.std.specs.Prelude.{◌≡◌};
-ghost use Rattle.recording.specs.Kinds.{letter_of, kind_with, KindOfLetter};
+ghost use Rattle.recording.specs.Kinds.{letter_of};
 
 /// What a record is, by its letter.
-#[derive(Clone, Copy)]
+#[derive(Clone, Copy, Debug, PartialEq, Eq)]
 pub enum RecordKind {
     Set = 0x43,
     Shares = 0x53,
@@ -17,30 +17,40 @@ pub enum RecordKind {
     Note = 0x4e,
 }
 
-impl RecordKind {
-    /// The letter that stands first in the body of such a record.
-    pub fn letter(self) -> u8
-        ensures { result ≡ letter_of self }
-    {
-        self as u8
-    }
+/// A letter that no kind of record has.
+#[derive(Clone, Copy, Debug, PartialEq, Eq)]
+pub struct UnknownLetter(pub u8);
 
-    /// The kind of record that has this letter.
-    pub(crate) fn with_letter(letter: u8) -> Option<RecordKind>
-        ensures answer { result ≡ kind_with letter }
-        ensures kind_of_letter { KindOfLetter letter result }
-    {
+/// The letter that stands first in the body of such a record.
+impl From<RecordKind> for u8 {
+    ghost from_gives = { λ kind letter. letter ≡ letter_of kind };
+
+    fn from(kind: RecordKind) -> u8 {
+        kind as u8
+    }
+}
+
+/// The kind of record that has this letter.
+impl TryFrom<u8> for RecordKind {
+    ghost use Rattle.recording.specs.Letters.{Decodes};
+
+    type Error = UnknownLetter;
+
+    ghost try_from_gives = { Decodes };
+
+    fn try_from(letter: u8) -> Result<RecordKind, UnknownLetter> {
+        // Written out, since a cast goes only from a kind to its letter.
         match letter {
-            b'C' => Some(RecordKind::Set),
-            b'S' => Some(RecordKind::Shares),
-            b'L' => Some(RecordKind::Loss),
-            b'T' => Some(RecordKind::Command),
-            b'O' => Some(RecordKind::Open),
-            b'W' => Some(RecordKind::Want),
-            b'E' => Some(RecordKind::Settle),
-            b'X' => Some(RecordKind::Drop),
-            b'N' => Some(RecordKind::Note),
-            _ => None,
+            b'C' => Ok(RecordKind::Set),
+            b'S' => Ok(RecordKind::Shares),
+            b'L' => Ok(RecordKind::Loss),
+            b'T' => Ok(RecordKind::Command),
+            b'O' => Ok(RecordKind::Open),
+            b'W' => Ok(RecordKind::Want),
+            b'E' => Ok(RecordKind::Settle),
+            b'X' => Ok(RecordKind::Drop),
+            b'N' => Ok(RecordKind::Note),
+            _ => Err(UnknownLetter(letter)),
         }
     }
 }

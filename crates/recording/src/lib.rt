@@ -2,15 +2,18 @@
 
 #![tactic(auto)]
 
+mod cursor;
 mod kinds;
 mod numbers;
+mod parsed;
 mod reader;
 mod records;
 mod runs;
 
-pub use faults::{Layer, LayoutFaultKind, NumberFault, NumberFaultKind, RecordFault};
-pub use kinds::RecordKind;
-pub use numbers::{Number, meaning, read_number};
+pub use faults::{Fault, Layer, LayoutFaultKind, Mark, NumberFault, NumberFaultKind, RecordFault};
+pub use kinds::{RecordKind, UnknownLetter};
+pub use numbers::{meaning, read_number};
+pub use parsed::Parsed;
 pub use reader::Reader;
-pub use records::{Record, RecordRead, read_record};
+pub use records::{Record, read_record};
 pub use runs::{Tally, read_through};

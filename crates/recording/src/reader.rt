@@ -1,7 +1,10 @@
 // A recording, read one record a call.
 ghost use Rattle.std.specs.Prelude.{◌≡◌, length};
-ghost use Rattle.recording.specs.Reading.{next_read, next_answer, next_offset, Forward, NextExactly};
+ghost use Rattle.recording.specs.Records.{body_read};
+ghost use Rattle.recording.specs.Whole.{record_read};
+ghost use Rattle.recording.specs.Reading.{admitted, next_read, next_answer, next_offset, Forward, NextExactly};
 
+use crate::parsed::Parsed;
 use crate::records::{Record, read_record};
 use faults::{LayoutFaultKind, RecordFault};
 
@@ -28,11 +31,7 @@ impl<'a> Reader<'a> {
     pub fn place(&self) -> usize
         ensures { result ≡ self.now.offset }
     {
-        let Reader {
-            recording: _,
-            offset,
-        } = self;
-        *offset
+        self.offset
     }
 
     /// The next record or its fault, or `None` at the end. After 13 the reader stands behind the record, after 10, 11 and 12 where it was.
@@ -43,20 +42,30 @@ impl<'a> Reader<'a> {
         ensures forward { Forward result self.old.offset self.new.offset (length self.old.recording.now) }
         ensures next_exactly { NextExactly self.old.recording.now self.old.offset subframe_open (next_read result) self.new.offset }
     {
-        if self.offset >= self.recording.len() {
+        let Reader { recording, offset } = self;
+        let place = *offset;
+        if place >= recording.len() {
             return None;
         }
-        let place = self.offset;
-        match read_record(&self.recording[place..], place) {
-            Ok(read) => {
-                self.offset = self.recording.len() - read.rest.len();
-                if read.record.out_of_place(subframe_open) {
-                    let kind = LayoutFaultKind::NoOpenSubframe;
-                    return Some(Err(RecordFault::Layout { place, kind }));
-                }
-                Some(Ok(read.record))
-            }
-            Err(fault) => Some(Err(fault)),
+        let read = read_record(&recording[place..], place);
+        if let Ok(read) = &read {
+            *offset = recording.len() - read.rest.len();
         }
+        Some(admitted(read, place, subframe_open))
     }
+}
+
+/// What is answered of what was read at a place: 13 comes last, for a record that needs an open subframe where none is open.
+fn admitted<'a>(
+    read: Result<Parsed<'a, Record<'a>>, RecordFault>,
+    place: usize,
+    subframe_open: bool,
+) -> Result<Record<'a>, RecordFault>
+    ensures { body_read result ≡ admitted place subframe_open (record_read read.entry) }
+{
+    let record = read?.value;
+    if record.out_of_place(subframe_open) {
+        return Err(LayoutFaultKind::NoOpenSubframe.at(place));
+    }
+    Ok(record)
 }

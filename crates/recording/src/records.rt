@@ -1,16 +1,18 @@
 // A record is a length and a body of that many bytes: a letter, and its numbers or a note's text.
-ghost use Rattle.std.specs.Prelude.{◌≡◌, ◌&&◌, nat_le};
+ghost use Rattle.std.specs.Prelude.{◌≡◌};
 ghost use Rattle.recording.specs.declared.kinds.RecordKind.TheVariants.{Set as SetKind, Shares as SharesKind, Loss as LossKind, Command as CommandKind, Want as WantKind};
-ghost use Rattle.recording.specs.Contents.{Content, numbered, content, content_kind, out_of_place, open_after};
-ghost use Rattle.recording.specs.Records.{numbers_at, is_printable, text_at, body_read, body_at, record_at, RecordExactly};
+ghost use Rattle.recording.specs.Contents.{numbered, content, content_kind, out_of_place, open_after};
+ghost use Rattle.recording.specs.Records.{is_printable, text_at, body_read, body_at, record_at, RecordExactly};
 ghost use Rattle.recording.specs.Whole.{record_read};
 
+use crate::cursor::Cursor;
 use crate::kinds::RecordKind;
-use crate::numbers::read_number;
-use faults::{LayoutFaultKind, NumberFault, NumberFaultKind, RecordFault};
+use crate::parsed::Parsed;
+use faults::{LayoutFaultKind, RecordFault};
 
 /// A record, with its numbers as they stand in the recording.
-#[derive(Clone, Copy)]
+// Kinds, classes and codes are plain numbers here: a recording may hold any number, is listed as it stands, and the terminal refuses what it does not know.
+#[derive(Clone, Copy, Debug, PartialEq, Eq)]
 pub enum Record<'a> {
     Set {
         cell: u32,
@@ -90,27 +92,7 @@ impl<'a> Record<'a> {
     }
 }
 
-/// The `N` numbers that the bytes are, with nothing after them.
-fn read_numbers<const N: usize>(bytes: &[u8], place: usize) -> Result<[u32; N], RecordFault>
-    ensures { result ≡ numbers_at place N bytes.now }
-{
-    let mut values = [0; N];
-    let mut rest = bytes;
-    for i in 0..N {
-        let read = read_number(rest, place)?;
-        values[i] = read.value;
-        rest = read.rest;
-    }
-    let left_over = rest;
-    if !left_over.is_empty() {
-        return Err(RecordFault::Layout {
-            place,
-            kind: LayoutFaultKind::BadBody,
-        });
-    }
-    Ok(values)
-}
-
+// A function for each kind of record with numbers: with all of them in it, `read_body` would have over 40 lines.
 fn set_record<'a>(numbers: [u32; 6]) -> Record<'a>
     ensures { content result ≡ numbered SetKind numbers }
 {
@@ -175,100 +157,61 @@ fn want_record<'a>(numbers: [u32; 6]) -> Record<'a>
     }
 }
 
-const FIRST_PRINTABLE: u8 = 0x20;
-
-const LAST_PRINTABLE: u8 = 0x7e;
-
-/// Whether a byte is a printable character of ASCII.
-fn is_printable(byte: u8) -> bool
-    ensures { result ≡ (nat_le 0x20 byte && nat_le byte 0x7E) }
-{
-    FIRST_PRINTABLE <= byte && byte <= LAST_PRINTABLE
-}
-
 /// Whether each byte is a printable character of ASCII.
 fn is_text(bytes: &[u8]) -> bool
     ensures { result ≡ is_printable bytes.now }
 {
-    for b in bytes {
-        if !is_printable(*b) {
-            return false;
-        }
-    }
-    true
+    bytes.iter().all(|byte| (b' '..=b'~').contains(byte))
 }
 
 /// The note that has these bytes for its text.
-fn read_note<'a>(text: &'a [u8], place: usize) -> Result<Record<'a>, RecordFault>
-    ensures { body_read result ≡ text_at place text.now }
+fn read_note<'a>(text: Cursor<'a>) -> Result<Record<'a>, RecordFault>
+    ensures { body_read result ≡ text_at text.entry.place text.entry.rest.now }
 {
-    if is_text(text) {
-        Ok(Record::Note { text })
+    if is_text(text.rest) {
+        Ok(Record::Note { text: text.rest })
     } else {
-        Err(RecordFault::Layout {
-            place,
-            kind: LayoutFaultKind::BadBody,
-        })
+        Err(LayoutFaultKind::BadBody.at(text.place))
     }
 }
 
 /// The record that a whole body holds.
-fn read_body<'a>(body: &'a [u8], place: usize) -> Result<Record<'a>, RecordFault>
-    ensures { body_read result ≡ body_at place body.now }
+fn read_body<'a>(body: Cursor<'a>) -> Result<Record<'a>, RecordFault>
+    ensures { body_read result ≡ body_at body.entry.place body.entry.rest.now }
 {
-    let bad_body = RecordFault::Layout {
-        place,
-        kind: LayoutFaultKind::BadBody,
-    };
-    let [letter, rest @ ..] = body else {
+    let bad_body = LayoutFaultKind::BadBody.at(body.place);
+    // A slice pattern: with `read_byte` the goals on what is left stay open.
+    let [letter, rest @ ..] = body.rest else {
         return Err(bad_body);
     };
-    let Some(kind) = RecordKind::with_letter(*letter) else {
+    let Ok(kind) = RecordKind::try_from(*letter) else {
         return Err(bad_body);
     };
+    let after = Cursor { rest, ..body };
     match kind {
-        RecordKind::Set => Ok(set_record(read_numbers(rest, place)?)),
-        RecordKind::Shares => Ok(shares_record(read_numbers(rest, place)?)),
-        RecordKind::Loss => Ok(loss_record(read_numbers(rest, place)?)),
-        RecordKind::Command => Ok(command_record(read_numbers(rest, place)?)),
-        RecordKind::Open => {
-            let [] = read_numbers::<0>(rest, place)?;
-            Ok(Record::Open)
-        }
-        RecordKind::Want => Ok(want_record(read_numbers(rest, place)?)),
-        RecordKind::Settle => {
-            let [] = read_numbers::<0>(rest, place)?;
-            Ok(Record::Settle)
-        }
-        RecordKind::Drop => {
-            let [] = read_numbers::<0>(rest, place)?;
-            Ok(Record::Drop)
-        }
-        RecordKind::Note => read_note(rest, place),
+        RecordKind::Set => Ok(set_record(after.read_numbers()?)),
+        RecordKind::Shares => Ok(shares_record(after.read_numbers()?)),
+        RecordKind::Loss => Ok(loss_record(after.read_numbers()?)),
+        RecordKind::Command => Ok(command_record(after.read_numbers()?)),
+        RecordKind::Open => after.end().map(|()| Record::Open),
+        RecordKind::Want => Ok(want_record(after.read_numbers()?)),
+        RecordKind::Settle => after.end().map(|()| Record::Settle),
+        RecordKind::Drop => after.end().map(|()| Record::Drop),
+        RecordKind::Note => read_note(after),
     }
-}
-
-/// A record that was read, and the bytes after it.
-#[derive(Clone, Copy)]
-pub struct RecordRead<'a> {
-    pub record: Record<'a>,
-    pub rest: &'a [u8],
 }
 
 /// The record at the front of `bytes`, which begin at `place`, in whatever order records may stand.
-pub fn read_record<'a>(bytes: &'a [u8], place: usize) -> Result<RecordRead<'a>, RecordFault>
+pub fn read_record<'a>(bytes: &'a [u8], place: usize) -> Result<Parsed<'a, Record<'a>>, RecordFault>
     ensures answer { record_read result ≡ record_at place bytes.now }
     ensures record_exactly { RecordExactly place bytes.now (record_read result) }
 {
-    let length = read_number(bytes, place)?;
-    let size = length.value as usize;
-    if length.rest.len() < size {
-        return Err(RecordFault::from(NumberFault {
-            place,
-            kind: NumberFaultKind::Truncated,
-        }));
-    }
-    let (body, rest) = length.rest.split_at(size);
-    let record = read_body(body, place)?;
-    Ok(RecordRead { record, rest })
+    let mut cursor = Cursor { place, rest: bytes };
+    let size = cursor.read_number()?;
+    // A `usize` has no `From<u32>`.
+    let body = cursor.read_part(size as usize)?;
+    Ok(Parsed {
+        value: read_body(body)?,
+        rest: cursor.rest,
+    })
 }

@@ -48,13 +48,11 @@ mod tests {
 
     #[test]
     fn cut_at_every_byte(rt: HostRuntime) {
-        for cut in 0..RECORDING.len() + 1 {
-            let tally = read_through(&RECORDING[0..cut]);
-            let number = match tally.ending {
-                Some(fault) => fault.number(),
-                None => 0,
-            };
-            let between_records = cut == 0 || cut == 4 || cut == 13 || cut == 15 || cut == 17;
+        // Each length from none to all, and not each byte.
+        for cut in 0..=RECORDING.len() {
+            let tally = read_through(&RECORDING[..cut]);
+            let number = tally.ending.map_or(0, |fault| fault.number());
+            let between_records = matches!(cut, 0 | 4 | 13 | 15 | 17);
             assert_eq!(rt; number, if between_records { 0 } else { 10 });
         }
     }
@@ -67,7 +65,7 @@ mod tests {
             return Err(Fail::new("a want where no subframe is open"));
         };
         assert_eq!(rt; fault.place(), 4);
-        assert_eq!(rt; fault.layer().letter(), 'R');
+        assert_eq!(rt; char::from(fault.layer()), 'R');
         assert_eq!(rt; fault.number(), 13);
         assert!(rt; !fault.ends_run());
         assert_eq!(rt; reader.place(), 13);

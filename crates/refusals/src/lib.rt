@@ -4,7 +4,7 @@
 
 ghost use Rattle.std.specs.Prelude.{◌≡◌};
 ghost use Rattle.refusals.specs.Numbers.{number_of};
-ghost use Rattle.refusals.specs.First.{refusal_if, or_else, first_that_holds, FirstThatHolds};
+ghost use Rattle.refusals.specs.First.{when, first_that_holds, refused_or, FirstThatHolds};
 
 /// Why a call is refused. Each discriminant is the number that the refusal answers with.
 #[derive(Clone, Copy, PartialEq, Eq, Debug)]
@@ -31,47 +31,39 @@ pub enum Refusal {
 
 impl Refusal {
     /// The refusal's number.
+    // A method and no `From`: `refusal.number()` says what the number is, which `u8::from(refusal)` would not.
     pub fn number(self) -> u8
         ensures { result ≡ number_of self }
     {
         self as u8
     }
-}
 
-/// A condition under which a call is refused, and the refusal that it gives.
-#[derive(Clone, Copy)]
-pub struct Condition {
-    pub holds: bool,
-    pub refusal: Refusal,
-}
-
-impl Condition {
-    /// The refusal where the condition holds.
-    pub fn refuses(self) -> Option<Refusal>
-        ensures { result ≡ refusal_if self }
+    /// The refusal where its condition holds, else none.
+    pub fn when(self, holds: bool) -> Option<Refusal>
+        ensures { result ≡ when holds self }
     {
-        if self.holds { Some(self.refusal) } else { None }
-    }
-}
-
-/// A refusal that was found stands; where none was, the next condition is asked.
-fn or_next(found: Option<Refusal>, condition: Condition) -> Option<Refusal>
-    ensures { result ≡ or_else found (refusal_if condition) }
-{
-    match found {
-        Some(refusal) => Some(refusal),
-        None => condition.refuses(),
+        holds.then_some(self)
     }
 }
 
 /// The refusal of the first condition that holds, or none where no condition holds.
-pub fn first_refusal(conditions: &[Condition]) -> Option<Refusal>
+pub fn first_refusal(conditions: &[Option<Refusal>]) -> Option<Refusal>
     ensures value { result ≡ first_that_holds conditions.now }
     ensures refused_exactly { FirstThatHolds conditions.now result }
 {
     let mut found = None;
-    for condition in conditions {
-        found = or_next(found, *condition);
+    for refusal in conditions {
+        found = found.or(*refusal);
     }
     found
+}
+
+/// Refuses by the first condition that holds.
+pub fn refuse_first(conditions: &[Option<Refusal>]) -> Result<(), Refusal>
+    ensures { result ≡ refused_or (first_that_holds conditions.now) tt }
+{
+    match first_refusal(conditions) {
+        Some(refusal) => Err(refusal),
+        None => Ok(()),
+    }
 }

@@ -12,6 +12,7 @@ use Rattle.sharing.specs.Groups.{if_group}
 use Rattle.sharing.specs.Ranks.{class_number, rank_of, granted_to}
 use Rattle.sharing.specs.Sharing.{served, reserves_by}
 use Rattle.sharing.proofs.Along.{then}
+use Rattle.refusals.proofs.Answered.{not_held}
 use Rattle.cells.specs.declared.cell.Cell.{Cell}
 use Rattle.cells.specs.declared.settings.Settings.{Settings}
 use Rattle.cells.specs.declared.powers.Powers.{Powers}
@@ -46,15 +47,15 @@ silent_with (Some s) k w = (control w.control, of_data w.«data», sounding w.so
   where
     control : (x : Option ControlWant) → class_of_control x ≡ None → (wanted_with (Some s) k (record { control = x; «data» = w.«data»; sounding = w.sounding })).control ≡ 0
     control None e = refl
-    control (Some x) e = let z : ◌≡◌ {A = ℕ} 0 1 = cc in absurd (omega arith)
+    control (Some x) e = absurd cc
 
     of_data : (x : Option DataWant) → class_of_data x ≡ None → (wanted_with (Some s) k (record { control = w.control; «data» = x; sounding = w.sounding })).«data» ≡ 0
     of_data None e = refl
-    of_data (Some x) e = let z : ◌≡◌ {A = ℕ} 0 1 = cc in absurd (omega arith)
+    of_data (Some x) e = absurd cc
 
     sounding : (x : Option SoundingWant) → class_of_sounding x ≡ None → (wanted_with (Some s) k (record { control = w.control; «data» = w.«data»; sounding = x })).sounding ≡ 0
     sounding None e = refl
-    sounding (Some x) e = let z : ◌≡◌ {A = ℕ} 0 1 = cc in absurd (omega arith)
+    sounding (Some x) e = absurd cc
 
 nothing_asked : (w : CellWants) → Silent w no_powers
 nothing_asked w = ((λ e. refl), (λ e. refl), (λ e. refl))
@@ -70,22 +71,22 @@ silent_at (c ∷ cs) (w ∷ ws) (suc k) = silent_at cs ws k
 control_class : (c : Class) → not (is_class 1 2 (class_number c)) ≡ false → OfControl (Some c)
 control_class Acknowledgement h = tt
 control_class ControlInformation h = tt
-control_class DataOnly h = let z : ◌≡◌ {A = ℕ} 0 1 = cc in absurd (omega arith)
-control_class Sounding h = let z : ◌≡◌ {A = ℕ} 0 1 = cc in absurd (omega arith)
+control_class DataOnly h = absurd cc
+control_class Sounding h = absurd cc
 
 data_class : (c : Class) → not (is_class 1 3 (class_number c)) ≡ false → OfData (Some c)
 data_class Acknowledgement h = tt
 data_class ControlInformation h = tt
 data_class DataOnly h = tt
-data_class Sounding h = let z : ◌≡◌ {A = ℕ} 0 1 = cc in absurd (omega arith)
+data_class Sounding h = absurd cc
 
 control_ok : (x : Option ControlWant) → IfSome x (λ w. WantInRange (ControlCase w)) → OfControl (class_of_control x)
 control_ok None h = tt
-control_ok (Some w) h = control_class w.class h.0
+control_ok (Some w) h = control_class w.class (not_held _ _ h.0)
 
 data_ok : (x : Option DataWant) → IfSome x (λ w. WantInRange (DataCase w)) → OfData (class_of_data x)
 data_ok None h = tt
-data_ok (Some w) h = data_class w.class h.0
+data_ok (Some w) h = data_class w.class (not_held _ _ h.0)
 
 sounding_ok : (x : Option SoundingWant) → OfSounding (class_of_sounding x)
 sounding_ok None = tt
@@ -100,13 +101,13 @@ in_range_at (w ∷ ws) h (suc k) = in_range_at ws h.1 k
 abbrev want_at : List Rank → ℕ → ℕ
 want_at rs k = (get_or rs k (rank_of Acknowledgement Master 0)).want
 
-module _ (P : ℕ) (R : PerGroup) where
-  grant_at : (g : PerGroup) (rs : List Rank) (k : ℕ) → (granted_at (served P R g rs) k ≤ want_at rs k) × (granted_at (served P R g rs) k ≤ P)
+module _ (P : ℕ) (R : PerGroup ℕ) where
+  grant_at : (g : PerGroup ℕ) (rs : List Rank) (k : ℕ) → (granted_at (served P R g rs) k ≤ want_at rs k) × (granted_at (served P R g rs) k ≤ P)
   grant_at g [] k = (omega arith, omega arith)
   grant_at g (r ∷ rs) zero = (omega arith, omega arith)
   grant_at g (r ∷ rs) (suc k) = grant_at (then P R g r.group r.want) rs k
 
-  served_groups : (g : PerGroup) (rs : List Rank) → map (λ (r : Rank). r.group) (served P R g rs) ≡ map (λ (r : Rank). r.group) rs
+  served_groups : (g : PerGroup ℕ) (rs : List Rank) → map (λ (r : Rank). r.group) (served P R g rs) ≡ map (λ (r : Rank). r.group) rs
   served_groups g [] = refl
   served_groups g (r ∷ rs) = ap (λ (xs : List Group). r.group ∷ xs) (served_groups (then P R g r.group r.want) rs)
 
@@ -125,21 +126,18 @@ first_is Y r rs gs X e =
     (ap (λ (Z : Group). if_group X Z r.granted + granted_to X rs) head, tail)
 
 no_turns : (gs : List Group) (Y : Group) → ◌≡◌ {A = List Group} [] (Y ∷ gs) → ⊥
-no_turns gs Y e = let z : ◌≡◌ {A = ℕ} 0 1 = cc in omega arith
-
-too_long : (r : Rank) (rs : List Rank) → map (λ (q : Rank). q.group) (r ∷ rs) ≡ [] → ⊥
-too_long r rs e = let z : ◌≡◌ {A = ℕ} 0 1 = cc in omega arith
+no_turns gs Y e = cc
 
 grants_taken : (X : Group) (rs : List Rank) → Turns rs → granted_to X rs ≡ all_of (grants_in X rs)
 grants_taken X [] e = absurd (no_turns _ _ e)
 grants_taken X (a ∷ []) e = absurd (no_turns _ _ (first_is Master a [] _ X e).1)
 grants_taken X (a ∷ b ∷ []) e = absurd (no_turns _ _ (first_is Secondary b [] _ X (first_is Master a (b ∷ []) _ X e).1).1)
-grants_taken X (a ∷ b ∷ c ∷ []) e = let z : ◌≡◌ {A = ℕ} 0 1 = cc in absurd (omega arith)
-grants_taken X (a ∷ b ∷ c ∷ d ∷ []) e = let z : ◌≡◌ {A = ℕ} 0 1 = cc in absurd (omega arith)
-grants_taken X (a ∷ b ∷ c ∷ d ∷ f ∷ []) e = let z : ◌≡◌ {A = ℕ} 0 1 = cc in absurd (omega arith)
-grants_taken X (a ∷ b ∷ c ∷ d ∷ f ∷ g ∷ []) e = let z : ◌≡◌ {A = ℕ} 0 1 = cc in absurd (omega arith)
-grants_taken X (a ∷ b ∷ c ∷ d ∷ f ∷ g ∷ h ∷ []) e = let z : ◌≡◌ {A = ℕ} 0 1 = cc in absurd (omega arith)
-grants_taken X (a ∷ b ∷ c ∷ d ∷ f ∷ g ∷ h ∷ i ∷ j ∷ rs) e = let z : ◌≡◌ {A = ℕ} 0 1 = cc in absurd (omega arith)
+grants_taken X (a ∷ b ∷ c ∷ []) e = absurd cc
+grants_taken X (a ∷ b ∷ c ∷ d ∷ []) e = absurd cc
+grants_taken X (a ∷ b ∷ c ∷ d ∷ f ∷ []) e = absurd cc
+grants_taken X (a ∷ b ∷ c ∷ d ∷ f ∷ g ∷ []) e = absurd cc
+grants_taken X (a ∷ b ∷ c ∷ d ∷ f ∷ g ∷ h ∷ []) e = absurd cc
+grants_taken X (a ∷ b ∷ c ∷ d ∷ f ∷ g ∷ h ∷ i ∷ j ∷ rs) e = absurd cc
 grants_taken X (a ∷ b ∷ c ∷ d ∷ f ∷ g ∷ h ∷ i ∷ []) e =
     let s1 = first_is Master a (b ∷ c ∷ d ∷ f ∷ g ∷ h ∷ i ∷ []) _ X e in
     let s2 = first_is Secondary b (c ∷ d ∷ f ∷ g ∷ h ∷ i ∷ []) _ X s1.1 in
@@ -176,7 +174,7 @@ module _ (rule : ℕ → ℕ → ℕ) (b : Shares) (cs : List Cell) (ws : List C
         small_sounding = m.1;
       }
 
-  abbrev R : PerGroup
+  abbrev R : PerGroup ℕ
   R = reserves_by rule b.guarantees none_made (ranks_of cs ws)
 
   turns : Turns (served_ranks rule b cs ws)

@@ -4,15 +4,14 @@ use Rattle.std.specs.List.{AllByRecursion}
 use Rattle.sharing.specs.declared.groups.Group.{Group}
 use Rattle.sharing.specs.declared.groups.Group.TheVariants.{Master, Secondary}
 use Rattle.sharing.specs.declared.groups.Shares.{Shares}
+use Rattle.sharing.specs.Groups.{at_group}
 use Rattle.sharing.specs.declared.ranks.Class.{Class}
 use Rattle.sharing.specs.declared.ranks.Class.TheVariants.{Acknowledgement, ControlInformation}
 use Rattle.cells.specs.declared.cell.Cell.{Cell}
 use Rattle.cells.specs.declared.wants.CellWants.{CellWants}
 use Rattle.cells.specs.Cells.{CellInRange}
 use Rattle.cells.specs.WantRanges.{WantsInRange}
-use Rattle.settling.specs.declared.outcome.Power.{Power}
 use Rattle.settling.specs.declared.outcome.CellPowers.{CellPowers}
-use Rattle.settling.specs.declared.outcome.GroupPowers.{GroupPowers}
 use Rattle.settling.specs.declared.outcome.Outcome.{Outcome}
 use Rattle.settling.specs.Classes.{if_class, class_of_control, class_of_data, no_wants}
 
@@ -34,13 +33,9 @@ abbrev pub over_group : {A : Type 0} → (A → ℕ) → A → List A → Group 
 over_group f d xs Master = over_four f d xs 0
 over_group f d xs Secondary = over_four f d xs 4
 
-abbrev pub power_at : Group → GroupPowers → Power
-power_at Master g = g.master
-power_at Secondary g = g.secondary
-
 pub record CellsAddUp (o : Outcome) : Type 0 where
-  pub adds_wanted : (X : Group) → over_group cell_wanted no_cell_powers o.cells X ≡ (power_at X o.groups).wanted
-  pub adds_granted : (X : Group) → over_group cell_granted no_cell_powers o.cells X ≡ (power_at X o.groups).granted
+  pub adds_wanted : (X : Group) → over_group cell_wanted no_cell_powers o.cells X ≡ (at_group X o.groups).wanted
+  pub adds_granted : (X : Group) → over_group cell_granted no_cell_powers o.cells X ≡ (at_group X o.groups).granted
 
 -- how many control and data wants of a class a cell has
 abbrev pub claims_in : Class → CellWants → ℕ

@@ -1,5 +1,6 @@
 -- What of a cell's powers ranks in each class.
 use Rattle.std.specs.Prelude.{ℕ, ◌+◌, ◌≤◌, cond, List, [], ◌∷◌, Some, None, Option, ◌==◌, slice_index_or}
+use Rattle.std.specs.List.{AllByRecursion}
 use Rattle.sharing.specs.declared.groups.Group.{Group}
 use Rattle.sharing.specs.declared.groups.Group.TheVariants.{Master, Secondary}
 use Rattle.sharing.specs.declared.groups.PerGroup.{PerGroup}
@@ -49,6 +50,10 @@ pub record Bounded (d : CellDemand) : Type 0 where
   pub of_data : d.powers.«data» ≤ 9772372209
   pub sounding : d.powers.sounding ≤ 9772372209
 
+pub record BothBounded (demands : PerGroup (List CellDemand)) : Type 0 where
+  pub masters : AllByRecursion Bounded demands.master
+  pub secondaries : AllByRecursion Bounded demands.secondary
+
 -- the four cells of a group: 0 to 3 are the master group's, 4 to 7 the secondary's
 abbrev pub no_wants : CellWants
 no_wants = record { control = None; «data» = None; sounding = None }
@@ -67,8 +72,8 @@ group_cells Master ws ps = four_from ws ps 0
 group_cells Secondary ws ps = four_from ws ps 4
 
 -- what each group wants in a class, and in classes 1 to 4
-abbrev pub class_pair : Class → (masters secondaries : List CellDemand) → PerGroup
+abbrev pub class_pair : Class → (masters secondaries : List CellDemand) → PerGroup ℕ
 class_pair c ms ss = record { master = class_want c ms; secondary = class_want c ss }
 
-abbrev pub class_wants : (masters secondaries : List CellDemand) → List PerGroup
+abbrev pub class_wants : (masters secondaries : List CellDemand) → List (PerGroup ℕ)
 class_wants ms ss = class_pair Acknowledgement ms ss ∷ class_pair ControlInformation ms ss ∷ class_pair DataOnly ms ss ∷ class_pair Sounding ms ss ∷ []

@@ -12,13 +12,13 @@ use Rattle.cells.specs.declared.cell.Cell.{Cell}
 use Rattle.cells.specs.declared.wants.CellWants.{CellWants}
 use Rattle.cells.specs.Every.{all_wanted}
 use Rattle.settling.specs.declared.classes.CellDemand.{CellDemand}
-use Rattle.settling.specs.declared.outcome.GroupPowers.{GroupPowers}
+use Rattle.settling.specs.declared.outcome.Power.{Power}
 use Rattle.settling.specs.declared.outcome.Outcome.{Outcome}
 use Rattle.settling.specs.Classes.{group_cells, class_wants}
 use Rattle.settling.specs.Grants.{grants_in, four_powers}
 
 -- nothing is granted before the ranks are served
-abbrev pub none_made : PerGroup
+abbrev pub none_made : PerGroup ℕ
 none_made = record { master = 0; secondary = 0 }
 
 -- what a subframe asks of the cells of a group, the loops as they stand
@@ -34,7 +34,7 @@ unfoldable pub served_ranks : (rule : ℕ → ℕ → ℕ) → Shares → List C
 served_ranks rule b cs ws = shared_by rule b none_made (ranks_of cs ws)
 
 -- what each group wanted and was granted
-abbrev pub groups_from : (wanted granted : PerGroup) → GroupPowers
+abbrev pub groups_from : (wanted granted : PerGroup ℕ) → PerGroup Power
 groups_from w g = record {
   master = record { wanted = w.master; granted = g.master };
   secondary = record { wanted = w.secondary; granted = g.secondary };

@@ -1,4 +1,5 @@
 // What a settled subframe leaves. All powers in nanowatts.
+use sharing::PerGroup;
 
 /// A power that was wanted, and what was granted of it.
 #[derive(Clone, Copy)]
@@ -16,11 +17,7 @@ pub struct CellPowers {
 }
 
 /// The powers of both groups.
-#[derive(Clone, Copy)]
-pub struct GroupPowers {
-    pub master: Power,
-    pub secondary: Power,
-}
+pub type GroupPowers = PerGroup<Power>;
 
 /// The powers of all cells and of both groups.
 #[derive(Clone, Copy)]

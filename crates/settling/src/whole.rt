@@ -3,17 +3,18 @@ ghost use Rattle.std.specs.Prelude.{◌≡◌};
 ghost use Rattle.settling.specs.Outcomes.{outcome_of, groups_from};
 ghost use Rattle.settling.specs.AddUp.{Settleable, CellsAddUp};
 
-use crate::classes::{cells_of, wants_by_class};
-use crate::grants::{grants_of, powers_of_four};
+use crate::classes::{demands, wants_by_class};
+use crate::grants::{grants_by_class, powers_of_four};
 use crate::outcome::{GroupPowers, Outcome, Power};
 use cells::{Cell, CellWants, wanted_all};
-use sharing::{Budget, Group, HoldingRule, PerGroup, Sharing, ranked, share};
+use sharing::{Budget, HoldingRule, PerGroup, Sharing, ranked, share};
 
 /// What each group wanted, and was granted.
+// Two lines for two groups, as is told at `PerGroup`.
 fn groups_of(sharing: Sharing) -> GroupPowers
     ensures { result ≡ groups_from sharing.demand.wanted sharing.granted }
 {
-    GroupPowers {
+    PerGroup {
         master: Power {
             wanted: sharing.demand.wanted.master,
             granted: sharing.granted.master,
@@ -36,15 +37,15 @@ pub fn settle<R: HoldingRule>(
     ensures cells_add_up_to_groups { Settleable budget.now.shares cells.now wants.now → CellsAddUp result }
 {
     let powers = wanted_all(cells, wants);
-    let master = cells_of(Group::Master, wants, &powers);
-    let secondary = cells_of(Group::Secondary, wants, &powers);
-    let mut ranks = ranked(&wants_by_class(&master, &secondary));
-    let sharing = match share(rule, budget, PerGroup::NONE, &mut ranks) {
-        Ok(sharing) => sharing,
-        Err(_) => unreachable(),
+    let demands = demands(wants, &powers);
+    let mut ranks = ranked(&wants_by_class(&demands));
+    let Ok(sharing) = share(rule, budget, PerGroup::NONE, &mut ranks) else {
+        unreachable()
     };
-    let [a, b, c, d] = powers_of_four(&master, grants_of(Group::Master, &ranks));
-    let [e, f, g, h] = powers_of_four(&secondary, grants_of(Group::Secondary, &ranks));
+    let grants = grants_by_class(&ranks);
+    // Named one by one: no method makes one array of two.
+    let [a, b, c, d] = powers_of_four(&demands.master, grants.master);
+    let [e, f, g, h] = powers_of_four(&demands.secondary, grants.secondary);
     Outcome {
         cells: [a, b, c, d, e, f, g, h],
         groups: groups_of(sharing),

@@ -5,23 +5,16 @@ use settling::settle;
 use sharing::{Aligned, Budget, Class};
 use std::test::Fail;
 
-const NO_WANTS: CellWants = CellWants {
-    control: None,
-    data: None,
-    sounding: None,
-};
-
 const ONE_BLOCK: CellWants = CellWants {
-    control: None,
     data: Some(DataWant {
         class: Class::DataOnly,
         blocks: 1,
     }),
-    sounding: None,
+    ..CellWants::NONE
 };
 
 fn cell_of_20_dbm() -> Result<Cell, Fail> {
-    let settings = Settings::checked(RawSettings {
+    let settings = Settings::try_from(RawSettings {
         loop_kind: 0,
         maximum: 230,
         data_base: 20,
@@ -38,7 +31,7 @@ fn one_cell_a_group(rt: HostRuntime) -> Result<(), Fail> {
     let mut cells = [Cell::unset(); 8];
     cells[0] = cell;
     cells[4] = cell;
-    let mut wants = [NO_WANTS; 8];
+    let mut wants = [CellWants::NONE; 8];
     wants[0] = ONE_BLOCK;
     wants[4] = ONE_BLOCK;
     let outcome = settle(&Aligned, &budget, &cells, &wants);
@@ -54,7 +47,7 @@ fn two_cells_split_a_rank(rt: HostRuntime) -> Result<(), Fail> {
     let budget = Budget::new(Level::from_tenths(230).nanowatts(), 50, 50)?;
     let cell = cell_of_20_dbm()?;
     let cells = [cell; 8];
-    let mut wants = [NO_WANTS; 8];
+    let mut wants = [CellWants::NONE; 8];
     wants[0] = ONE_BLOCK;
     wants[1] = ONE_BLOCK;
     wants[4] = ONE_BLOCK;

@@ -12,12 +12,12 @@ use Rattle.sharing.specs.Verdict.{Fits, MadeWithin, ExactFit, GuaranteedShare, N
 use Rattle.sharing.proofs.Along.{of_group, by_group, gets, then, gets_most, kept, limited, floor, fit, clear}
 
 -- serving the ranks changes no want
-module _ (P : ℕ) (R : PerGroup) where
-  pub served_wanted : (X : Group) (g : PerGroup) (rs : List Rank) → wanted_by X (served P R g rs) ≡ wanted_by X rs
+module _ (P : ℕ) (R : PerGroup ℕ) where
+  pub served_wanted : (X : Group) (g : PerGroup ℕ) (rs : List Rank) → wanted_by X (served P R g rs) ≡ wanted_by X rs
   served_wanted X g [] = refl
   served_wanted X g (r ∷ rs) = ap (λ (n : ℕ). if_group X r.group r.want + n) (served_wanted X (then P R g r.group r.want) rs)
 
-  served_ahead : (X : Group) (g : PerGroup) (rs : List Rank) → ahead_of X (served P R g rs) ≡ ahead_of X rs
+  served_ahead : (X : Group) (g : PerGroup ℕ) (rs : List Rank) → ahead_of X (served P R g rs) ≡ ahead_of X rs
   served_ahead X g [] = refl
   served_ahead X g (r ∷ rs) =
       let far = then P R g r.group r.want in
@@ -32,7 +32,7 @@ record Fair (P guaranteed wish claim got : ℕ) : Type 0 where
   sure : got < wish → guaranteed ≤ got
   most : got ≤ wish
 
-fair_master : (P : ℕ) (G R made : PerGroup) (rs : List Rank) → G.master + G.secondary ≤ P →
+fair_master : (P : ℕ) (G R made : PerGroup ℕ) (rs : List Rank) → G.master + G.secondary ≤ P →
     Bounded G.master (made.master + wanted_by Master rs) R.master → R.secondary ≤ G.secondary →
     made.master ≤ R.master → made.secondary ≤ R.secondary →
     Fair P G.master (made.master + wanted_by Master rs) (max R.secondary (made.secondary + ahead_of Master rs)) (made.master + gets P R Master made rs)
@@ -55,14 +55,14 @@ fair_master P G R made rs sum held rest own other =
     }
 
 -- the groups exchanged
-abbrev turned : PerGroup → PerGroup
+abbrev turned : PerGroup ℕ → PerGroup ℕ
 turned p = record { master = p.secondary; secondary = p.master }
 
 abbrev swapped : List Rank → List Rank
 swapped [] = []
 swapped (r ∷ rs) = of_group r (rival r.group) ∷ swapped rs
 
-gets_swapped : (P : ℕ) (R g : PerGroup) (rs : List Rank) → gets P R Secondary g rs ≡ gets P (turned R) Master (turned g) (swapped rs)
+gets_swapped : (P : ℕ) (R g : PerGroup ℕ) (rs : List Rank) → gets P R Secondary g rs ≡ gets P (turned R) Master (turned g) (swapped rs)
 gets_swapped P R g [] = refl
 gets_swapped P R g (r ∷ rs) = by_group r (λ q. gets P R Secondary g (q ∷ rs) ≡ gets P (turned R) Master (turned g) (swapped (q ∷ rs)))
     (ap (λ (n : ℕ). 0 + n) (gets_swapped P R (then P R g Master r.want) rs))
@@ -80,7 +80,7 @@ ahead_swapped (r ∷ rs) = by_group r (λ q. ahead_of Secondary (q ∷ rs) ≡ a
     (rw (wanted_swapped rs, ahead_swapped rs) refl)
     (rw (wanted_swapped rs, ahead_swapped rs) refl)
 
-module _ (P : ℕ) (G R made : PerGroup) (rs : List Rank) where
+module _ (P : ℕ) (G R made : PerGroup ℕ) (rs : List Rank) where
   -- the verdict on one group, over the wants before the sharing
   fair : G.master + G.secondary ≤ P → ((X : Group) → Bounded (at_group X G) (whole_want made X rs) (at_group X R)) → MadeWithin R made →
       (X : Group) → Fair P (at_group X G) (whole_want made X rs) (rival_claim R made X rs) (at_group X made + gets P R X made rs)

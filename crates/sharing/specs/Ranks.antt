@@ -23,9 +23,9 @@ abbrev pub served_in : Rank → ℕ → Rank
 served_in r n = record { class = r.class; group = r.group; want = r.want; room = n; granted = min r.want n }
 
 -- the ranks of the wants of classes 1 to 4: by class, and in a class the master group first
-abbrev pub by_class : List PerGroup → List Rank
+abbrev pub by_class : List (PerGroup ℕ) → List Rank
 by_class ws =
-    let w : ℕ → PerGroup = λ k. slice_index_or ws k (record { master = 0; secondary = 0 }) in
+    let w : ℕ → PerGroup ℕ = λ k. slice_index_or ws k (record { master = 0; secondary = 0 }) in
     rank_of Acknowledgement Master (w 0).master ∷ rank_of Acknowledgement Secondary (w 0).secondary ∷
     rank_of ControlInformation Master (w 1).master ∷ rank_of ControlInformation Secondary (w 1).secondary ∷
     rank_of DataOnly Master (w 2).master ∷ rank_of DataOnly Secondary (w 2).secondary ∷
@@ -47,11 +47,11 @@ ahead_of X [] = 0
 ahead_of X (r ∷ rs) = cond (nat_lt 0 (wanted_by X rs)) (if_group (rival X) r.group r.want + ahead_of X rs) 0
 
 -- What a group wants, and what it is granted, in all: with what it was granted already, which counts as a want that was met.
-abbrev pub whole_want : (made : PerGroup) → Group → List Rank → ℕ
+abbrev pub whole_want : (made : PerGroup ℕ) → Group → List Rank → ℕ
 whole_want made X rs = at_group X made + wanted_by X rs
 
-abbrev pub whole_grant : (made : PerGroup) → Group → List Rank → ℕ
+abbrev pub whole_grant : (made : PerGroup ℕ) → Group → List Rank → ℕ
 whole_grant made X rs = at_group X made + granted_to X rs
 
-abbrev pub grants_of : (made : PerGroup) → List Rank → PerGroup
+abbrev pub grants_of : (made : PerGroup ℕ) → List Rank → PerGroup ℕ
 grants_of made rs = record { master = whole_grant made Master rs; secondary = whole_grant made Secondary rs }

@@ -17,10 +17,10 @@ abbrev pub fits_test : (total guarantee want claim : ℕ) → Bool
 fits_test total guarantee want claim = nat_le want guarantee || nat_le (want + claim) total
 
 -- grants already made that are within the reserves (all of them, where none were made)
-abbrev pub MadeWithin : (reserves made : PerGroup) → Type 0
+abbrev pub MadeWithin : (reserves made : PerGroup ℕ) → Type 0
 MadeWithin reserves made = (X : Group) → at_group X made ≤ at_group X reserves
 
-module _ (total : ℕ) (guarantees reserves made : PerGroup) (ranks : List Rank) where
+module _ (total : ℕ) (guarantees reserves made : PerGroup ℕ) (ranks : List Rank) where
   -- a group gets all that it wants exactly where its want fits
   abbrev pub ExactFit : Type 0
   ExactFit = (X : Group) →

@@ -1,5 +1,5 @@
 // What is known of a subframe before anything is shared.
-ghost use Rattle.std.specs.Prelude.{◌≡◌, ◌+◌, ◌^◌, ◌<◌, not, [], ◌∷◌, IfOk, Decides, nat_lt};
+ghost use Rattle.std.specs.Prelude.{◌≡◌, ◌^◌, ◌<◌, not, [], ◌∷◌, IfOk, Decides, nat_lt};
 ghost use Rattle.refusals.specs.First.{when, first_that_holds, refused_or};
 ghost use Rattle.refusals.specs.declared.Refusal.TheVariants.{OutOfRange};
 ghost use Rattle.sharing.specs.Groups.{rival, at_group};
@@ -16,55 +16,65 @@ use refusals::Refusal;
 /// What each group wants, what the holding rule reserves for it, and what its rival can keep from it.
 #[derive(Clone, Copy)]
 pub struct Demand {
-    pub wanted: PerGroup,
-    pub reserves: PerGroup,
-    pub claims: PerGroup,
+    pub wanted: PerGroup<u64>,
+    pub reserves: PerGroup<u64>,
+    pub claims: PerGroup<u64>,
 }
 
-/// All that a group wants, with what it was granted already. Refused where 64 bits do not hold it.
-fn all_wanted(already: PerGroup, group: Group, ranks: &[Rank]) -> Result<u64, Refusal>
-    ensures { result ≡ refused_or (first_that_holds (when (not (nat_lt (whole_want already group ranks.now) (2 ^ 64))) OutOfRange ∷ [])) (whole_want already group ranks.now) }
-{
-    let mut sum = already.of(group);
-    for rank in ranks {
-        let Some(more) = sum.checked_add(group.own(rank.group, rank.want)) else {
-            return Err(Refusal::OutOfRange);
-        };
-        sum = more;
-    }
-    Ok(sum)
+/// The wants of a subframe: its ranks, and what each group was granted already.
+#[derive(Clone, Copy)]
+struct Wants<'a> {
+    already: PerGroup<u64>,
+    ranks: &'a [Rank],
 }
 
-/// The rival's wants that rank ahead of the group's lowest-ranked want above 0.
-fn wanted_ahead(group: Group, ranks: &[Rank]) -> u64
-    requires { wanted_by (rival group) ranks.now < 2 ^ 64 }
-    ensures { result ≡ ahead_of group ranks.now }
-{
-    let rival = group.rival();
-    let mut passed = 0;
-    let mut ahead = 0;
-    for rank in ranks {
-        if group.own(rank.group, rank.want) > 0 {
-            ahead = passed;
+impl Wants<'_> {
+    /// All that a group wants, with what it was granted already. Refused where 64 bits do not hold it.
+    fn all_of(&self, group: Group) -> Result<u64, Refusal>
+        ensures { result ≡ refused_or (first_that_holds (when (not (nat_lt (whole_want self.now.already group self.now.ranks.now) (2 ^ 64))) OutOfRange ∷ [])) (whole_want self.now.already group self.now.ranks.now) }
+    {
+        // Tried as `try_fold`, with the refusal inside and after it, and as a sum in 128 bits: no proof closed.
+        let mut sum = self.already.of(group);
+        for rank in self.ranks {
+            let want = group.own(rank.group, rank.want);
+            sum = sum.checked_add(want).ok_or(Refusal::OutOfRange)?;
         }
-        passed += rival.own(rank.group, rank.want);
+        Ok(sum)
     }
-    ahead
-}
 
-/// What its rival can keep from a group.
-fn claim_of_rival(reserves: PerGroup, already: PerGroup, group: Group, ranks: &[Rank]) -> u64
-    requires { whole_want already (rival group) ranks.now < 2 ^ 64 }
-    ensures { result ≡ rival_claim reserves already group ranks.now }
-{
-    let rival = group.rival();
-    reserves
-        .of(rival)
-        .max(already.of(rival) + wanted_ahead(group, ranks))
+    /// The rival's wants that rank ahead of the group's lowest-ranked want above 0.
+    #[tactic(auto, using(crate::proofs::Steps::searched_none))]
+    fn ahead_of(&self, group: Group) -> u64
+        requires { wanted_by (rival group) self.now.ranks.now < 2 ^ 64 }
+        ensures { result ≡ ahead_of group self.now.ranks.now }
+    {
+        let rival = group.rival();
+        let mut passed = 0;
+        let mut ahead = 0;
+        for rank in self.ranks {
+            if group.own(rank.group, rank.want) > 0 {
+                ahead = passed;
+            }
+            passed += rival.own(rank.group, rank.want);
+        }
+        ahead
+    }
+
+    /// What its rival can keep from a group.
+    #[tactic(auto, using(crate::proofs::Steps::ahead_most))]
+    fn claim_of_rival(&self, reserves: PerGroup<u64>, group: Group) -> u64
+        requires { whole_want self.now.already (rival group) self.now.ranks.now < 2 ^ 64 }
+        ensures { result ≡ rival_claim reserves self.now.already group self.now.ranks.now }
+    {
+        let rival = group.rival();
+        reserves
+            .of(rival)
+            .max(self.already.of(rival) + self.ahead_of(group))
+    }
 }
 
 /// What a rule reserves for each group.
-fn ask<R: HoldingRule>(rule: &R, guarantees: PerGroup, wanted: PerGroup) -> PerGroup
+fn ask<R: HoldingRule>(rule: &R, guarantees: PerGroup<u64>, wanted: PerGroup<u64>) -> PerGroup<u64>
     ensures { result ≡ reserved (R.reserve rule.now) guarantees wanted }
 {
     PerGroup {
@@ -75,23 +85,25 @@ fn ask<R: HoldingRule>(rule: &R, guarantees: PerGroup, wanted: PerGroup) -> PerG
 
 impl Demand {
     /// The demand of a subframe under a holding rule. Refused where 64 bits do not hold what a group wants.
+    #[tactic(auto, using(crate::proofs::Steps::ranks_ahead))]
     pub fn new<R: HoldingRule>(
         rule: &R,
         budget: &Budget,
-        already: PerGroup,
+        already: PerGroup<u64>,
         ranks: &[Rank],
     ) -> Result<Demand, Refusal>
         ensures answers { result ≡ refused_or (demand_refusal already ranks.now) (demand_of (R.reserve rule.now) budget.now.shares.guarantees already ranks.now) }
         ensures ranks_ahead { (X : Group) → RanksAhead X ranks.now }
     {
+        let wants = Wants { already, ranks };
         let wanted = PerGroup {
-            master: all_wanted(already, Group::Master, ranks)?,
-            secondary: all_wanted(already, Group::Secondary, ranks)?,
+            master: wants.all_of(Group::Master)?,
+            secondary: wants.all_of(Group::Secondary)?,
         };
         let reserves = ask(rule, budget.shares.guarantees, wanted);
         let claims = PerGroup {
-            master: claim_of_rival(reserves, already, Group::Master, ranks),
-            secondary: claim_of_rival(reserves, already, Group::Secondary, ranks),
+            master: wants.claim_of_rival(reserves, Group::Master),
+            secondary: wants.claim_of_rival(reserves, Group::Secondary),
         };
         Ok(Demand {
             wanted,
@@ -115,7 +127,7 @@ impl Demand {
 pub fn fits<R: HoldingRule>(
     rule: &R,
     budget: &Budget,
-    already: PerGroup,
+    already: PerGroup<u64>,
     ranks: &[Rank],
     group: Group,
 ) -> Result<bool, Refusal>

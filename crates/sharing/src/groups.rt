@@ -1,9 +1,11 @@
-// The two cell groups, and amounts of power by group.
-ghost use Rattle.std.specs.Prelude.{◌≡◌, ◌+◌, ◌^◌, ◌<◌};
+// The two cell groups, and what each has: a value, mostly an amount of power in nanowatts.
+ghost use Rattle.std.specs.Prelude.{◌≡◌, ◌+◌, ◌^◌, ◌<◌, Some};
 ghost use Rattle.sharing.specs.Groups.{rival, at_group, more_for, if_group};
 
+use std::fmt;
+
 /// A cell group of the terminal.
-#[derive(Clone, Copy)]
+#[derive(Clone, Copy, Debug, PartialEq, Eq)]
 pub enum Group {
     Master,
     Secondary,
@@ -24,31 +26,38 @@ impl Group {
     pub fn own(self, other: Group, amount: u64) -> u64
         ensures { result ≡ if_group self other amount }
     {
-        match (self, other) {
-            (Group::Master, Group::Master) => amount,
-            (Group::Secondary, Group::Secondary) => amount,
-            (Group::Master, Group::Secondary) => 0,
-            (Group::Secondary, Group::Master) => 0,
-        }
+        if self == other { amount } else { 0 }
     }
 }
 
-/// An amount for each group, in nanowatts.
-#[derive(Clone, Copy)]
-pub struct PerGroup {
-    pub master: u64,
-    pub secondary: u64,
+impl fmt::Display for Group {
+    ghost use Rattle.std.specs.Fmt.{padded};
+    ghost use Rattle.sharing.specs.Groups.{group_name};
+
+    ghost output = { λ X. Some (group_name X) };
+
+    ghost styled_output = { λ X style. Some (padded style (group_name X)) };
+
+    fn fmt<W: fmt::Write>(&self, f: &mut fmt::Formatter<W>) -> fmt::Result {
+        f.pad(match self {
+            Group::Master => "master",
+            Group::Secondary => "secondary",
+        })
+    }
 }
 
-impl PerGroup {
-    /// Nothing for either group.
-    pub const NONE: PerGroup = PerGroup {
-        master: 0,
-        secondary: 0,
-    };
+/// One value for each group.
+// A value for each group is written as a literal of two lines: a closure over the group would hide which is which, and where one
+// side can be refused `?` stands in it.
+#[derive(Clone, Copy)]
+pub struct PerGroup<T> {
+    pub master: T,
+    pub secondary: T,
+}
 
-    /// A group's amount.
-    pub fn of(self, group: Group) -> u64
+impl<T: Copy> PerGroup<T> {
+    /// A group's value.
+    pub fn of(self, group: Group) -> T
         ensures { result ≡ at_group group self }
     {
         match group {
@@ -56,9 +65,17 @@ impl PerGroup {
             Group::Secondary => self.secondary,
         }
     }
+}
+
+impl PerGroup<u64> {
+    /// Nothing for either group.
+    pub const NONE: PerGroup<u64> = PerGroup {
+        master: 0,
+        secondary: 0,
+    };
 
     /// The amounts with `more` for a group.
-    pub(crate) fn plus(self, group: Group, more: u64) -> PerGroup
+    pub(crate) fn plus(self, group: Group, more: u64) -> PerGroup<u64>
         requires { at_group group self + more < 2 ^ 64 }
         ensures { result ≡ more_for group more self }
     {
@@ -79,5 +96,5 @@ impl PerGroup {
 #[derive(Clone, Copy)]
 pub struct Shares {
     pub total: u64,
-    pub guarantees: PerGroup,
+    pub guarantees: PerGroup<u64>,
 }

@@ -1,11 +1,13 @@
 // The order in which wants are served.
 ghost use Rattle.std.specs.Prelude.{◌≡◌};
+ghost use Rattle.refusals.specs.Numbers.{StandsFor};
 ghost use Rattle.sharing.specs.Ranks.{class_number, rank_of, served_in, by_class};
 
 use crate::groups::{Group, PerGroup};
+use refusals::Refusal;
 
 /// What a want carries. Each discriminant is the number of the class, and lower numbers are served first.
-#[derive(Clone, Copy)]
+#[derive(Clone, Copy, Debug, PartialEq, Eq)]
 pub enum Class {
     /// Control or data with HARQ-ACK, or control with a scheduling request.
     Acknowledgement = 1,
@@ -17,8 +19,27 @@ pub enum Class {
     Sounding = 4,
 }
 
+// By hand: no derive reads an enum from its discriminants.
+impl TryFrom<u32> for Class {
+    type Error = Refusal;
+
+    ghost try_from_gives = { StandsFor class_number 1 4 };
+
+    /// The class of a number. Refused where it is not 1 to 4.
+    fn try_from(number: u32) -> Result<Class, Refusal> {
+        match number {
+            1 => Ok(Class::Acknowledgement),
+            2 => Ok(Class::ControlInformation),
+            3 => Ok(Class::DataOnly),
+            4 => Ok(Class::Sounding),
+            _ => Err(Refusal::OutOfRange),
+        }
+    }
+}
+
 impl Class {
     /// The number of the class.
+    // A method and no `From`: `class.number()` says what the number is, which `u8::from(class)` would not.
     pub fn number(self) -> u8
         ensures { result ≡ class_number self }
     {
@@ -60,9 +81,10 @@ impl Rank {
 }
 
 /// The wants of classes 1 to 4 in the order of service: by class, and in a class the master group first.
-pub fn ranked(wants: &[PerGroup; 4]) -> [Rank; 8]
+pub fn ranked(wants: &[PerGroup<u64>; 4]) -> [Rank; 8]
     ensures { result ≡ by_class wants.now }
 {
+    // Written out, so that the order is seen; from an index, class and group would have to be worked out.
     let [first, second, third, fourth] = *wants;
     [
         Rank::new(Class::Acknowledgement, Group::Master, first.master),

@@ -1,9 +1,8 @@
 // The sharing of one total, rank by rank.
 ghost use Rattle.std.specs.Prelude.{◌≡◌, ◌+◌, ◌≤◌, min, IfOk, Err};
 ghost use Rattle.refusals.specs.First.{refused_or, unchanged_or};
-ghost use Rattle.sharing.specs.Groups.{at_group};
 ghost use Rattle.sharing.specs.Ranks.{grants_of};
-ghost use Rattle.sharing.specs.Sharing.{reserves_by, demand_of, demand_refusal, room_at, served};
+ghost use Rattle.sharing.specs.Sharing.{reserves_by, demand_refusal, room_at, served};
 ghost use Rattle.sharing.specs.Shared.{shared_by, sharing_of};
 ghost use Rattle.sharing.specs.Verdict.{MadeWithin, ExactFit, GuaranteedShare, NoMoreThanWanted, WithinTotal, RoomAtEveryRank};
 ghost use Rattle.sharing.specs.Remainder.{StandardRemainder};
@@ -19,11 +18,13 @@ use refusals::Refusal;
 #[derive(Clone, Copy)]
 pub struct Sharing {
     pub demand: Demand,
-    pub granted: PerGroup,
+    pub granted: PerGroup<u64>,
 }
 
+// The total and the reserves go to these two functions alone: a struct of them would be made once and taken apart at once.
+
 /// What a group may still take of the total.
-fn room_for(total: u64, reserves: PerGroup, granted: PerGroup, group: Group) -> u64
+fn room_for(total: u64, reserves: PerGroup<u64>, granted: PerGroup<u64>, group: Group) -> u64
     ensures { result ≡ room_at total reserves granted group }
 {
     let rival = group.rival();
@@ -32,7 +33,12 @@ fn room_for(total: u64, reserves: PerGroup, granted: PerGroup, group: Group) -> 
 }
 
 /// Serves the ranks in order under reserves that are known, and answers what each group was granted.
-fn serve(total: u64, reserves: PerGroup, already: PerGroup, ranks: &mut [Rank]) -> PerGroup
+fn serve(
+    total: u64,
+    reserves: PerGroup<u64>,
+    already: PerGroup<u64>,
+    ranks: &mut [Rank],
+) -> PerGroup<u64>
     ensures leaves { ranks.new ≡ served total reserves already ranks.old }
     ensures sums { result ≡ grants_of already (served total reserves already ranks.old) }
 {
@@ -45,12 +51,15 @@ fn serve(total: u64, reserves: PerGroup, already: PerGroup, ranks: &mut [Rank]) 
     granted
 }
 
+// `Demand::new`, `fits` and `share` take the same four things. A caller calls one of them, once, so a struct of the four would
+// only be made for that call, and each clause would name them through it.
+
 /// Shares a budget's total among ranks, in their order, under a holding rule, after grants that were made already.
 /// Each rank is left with its room and its grant. Refused, with the ranks as they were, where 64 bits do not hold what a group wants.
 pub fn share<R: HoldingRule>(
     rule: &R,
     budget: &Budget,
-    already: PerGroup,
+    already: PerGroup<u64>,
     ranks: &mut [Rank],
 ) -> Result<Sharing, Refusal>
     ensures answers { result ≡ refused_or (demand_refusal already ranks.old) (sharing_of (R.reserve rule.now) budget.now.shares already ranks.old) }

@@ -4,23 +4,19 @@ use sharing::{Budget, guarantee};
 use split::{DataClaim, MAX_NANOWATTS, SoundingClaim, split};
 use std::test::Fail;
 
-fn refusal_of(total: u64, master: u32, secondary: u32) -> Option<Refusal> {
-    match Budget::new(total, master, secondary) {
-        Ok(_) => None,
-        Err(refusal) => Some(refusal),
-    }
-}
-
 #[test]
 fn budgets(rt: HostRuntime) {
-    assert_eq!(rt; refusal_of(MAX_NANOWATTS, 60, 40), None);
+    assert_eq!(rt; Budget::new(MAX_NANOWATTS, 60, 40).err(), None);
     assert_eq!(rt;
-        refusal_of(MAX_NANOWATTS + 1, 60, 40),
+        Budget::new(MAX_NANOWATTS + 1, 60, 40).err(),
         Some(Refusal::OutOfRange)
     );
-    assert_eq!(rt; refusal_of(0, 101, 0), Some(Refusal::OutOfRange));
-    assert_eq!(rt; refusal_of(0, 0, 101), Some(Refusal::OutOfRange));
-    assert_eq!(rt; refusal_of(0, 60, 41), Some(Refusal::PercentagesAbove100));
+    assert_eq!(rt; Budget::new(0, 101, 0).err(), Some(Refusal::OutOfRange));
+    assert_eq!(rt; Budget::new(0, 0, 101).err(), Some(Refusal::OutOfRange));
+    assert_eq!(rt;
+        Budget::new(0, 60, 41).err(),
+        Some(Refusal::PercentagesAbove100)
+    );
     assert_eq!(rt; guarantee(199_526_231, 101), Err(Refusal::OutOfRange));
     assert_eq!(rt; Refusal::PercentagesAbove100.number(), 7);
 }

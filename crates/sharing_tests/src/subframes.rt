@@ -15,18 +15,15 @@ struct Subframe {
     full: [[u64; 2]; 4],
 }
 
-fn per_group(pair: [u64; 2]) -> PerGroup {
-    PerGroup {
-        master: pair[0],
-        secondary: pair[1],
-    }
+fn per_group([master, secondary]: [u64; 2]) -> PerGroup<u64> {
+    PerGroup { master, secondary }
 }
 
 fn granted_as<R: HoldingRule>(
     rt: &impl Abort,
     rule: &R,
     budget: &Budget,
-    wants: &[PerGroup; 4],
+    wants: &[PerGroup<u64>; 4],
     grants: &[[u64; 2]; 4],
 ) -> Result<(), Fail> {
     let mut ranks = ranked(wants);
@@ -36,9 +33,8 @@ fn granted_as<R: HoldingRule>(
         met,
         sharing.granted.secondary == sharing.demand.wanted.secondary
     );
-    for class in 0..4 {
-        assert_eq!(rt; ranks[2 * class].granted, grants[class][0]);
-        assert_eq!(rt; ranks[2 * class + 1].granted, grants[class][1]);
+    for (rank, &granted) in ranks.iter().zip(grants.iter().flatten()) {
+        assert_eq!(rt; rank.granted, granted);
     }
     Ok(())
 }
@@ -48,12 +44,7 @@ fn grants_of_another_program(rt: HostRuntime) -> Result<(), Fail> {
     for subframe in table() {
         let total = Level::from_tenths(subframe.total).nanowatts();
         let budget = Budget::new(total, subframe.master, subframe.secondary)?;
-        let wants = [
-            per_group(subframe.wants[0]),
-            per_group(subframe.wants[1]),
-            per_group(subframe.wants[2]),
-            per_group(subframe.wants[3]),
-        ];
+        let wants = subframe.wants.map(per_group);
         granted_as(&rt, &Aligned, &budget, &wants, &subframe.aligned)?;
         granted_as(&rt, &Full, &budget, &wants, &subframe.full)?;
     }

@@ -1,41 +1,38 @@
 -- What is within the limits, and what a split that is allowed answers.
-use Rattle.std.proofs.Common.{◌≡◌, ℕ, ◌*◌, ◌^◌, ◌<◌, ◌≤◌, Bool, true, false, ◌&&◌, leb, List, [], ◌∷◌, map, length, Ok, Err, sym, refl, ap, arith}
-use Rattle.std.proofs.lemmas.Bool.{leb-true, and_parts, and_left, cond-true, cond-false}
+use Rattle.std.proofs.Common.{◌≡◌, ℕ, ◌+◌, ◌*◌, ◌/◌, ◌^◌, ◌<◌, ◌≤◌, true, leb, List, [], ◌∷◌, map, length, sym, refl, ap, ◌∙◌, arith}
+use Rattle.std.proofs.lemmas.Bool.{leb-true, le-leb, and_parts}
+use Rattle.std.proofs.lemmas.List.{length-map}
+use Rattle.std.proofs.lemmas.List.Folds.{list_all-map}
+use Rattle.std.proofs.lemmas.List.Sums.{AllPass-from_list_all, sum_by-cons, sum_by-le}
 use Rattle.std.proofs.lemmas.Nat.{mul-le}
-use Rattle.refusals.specs.declared.Refusal.TheVariants.{OutOfRange}
-use Rattle.split.specs.Shares.{sum_of, all_within, split_of, with_grants}
-use Rattle.split.specs.Answer.{allowed, answer, after}
+use Rattle.std.proofs.lemmas.Simd.{map-map}
+use Rattle.std.specs.List.{sum_by, list_all, All}
+use Rattle.split.specs.Shares.{sum_of, rounded_down, all_within}
+use Rattle.split.specs.Answer.{allowed}
+use Rattle.split.proofs.Exact.{floors_room}
 
-pub wants_more : (w : ℕ) (ws : List ℕ) → leb w 1995262314 ≡ true → all_within (w ∷ ws) ≡ all_within ws
-wants_more w ws h = ap (λ b. b && all_within ws) h
+-- what claims want together, as a sum over the claims
+pub sum_of_wants : {C : Type 0} (asks : C → ℕ) (cs : List C) → sum_by asks cs ≡ sum_of (map asks cs)
+sum_of_wants asks [] = refl
+sum_of_wants asks (c ∷ cs) = sum_by-cons asks c cs ∙ ap (λ (n : ℕ). asks c + n) (sum_of_wants asks cs)
 
-pub wants_less : (w : ℕ) (ws : List ℕ) → leb w 1995262314 ≡ false → all_within (w ∷ ws) ≡ false
-wants_less w ws h = and_left _ _ h
+-- the shares, rounded down, as a sum over the claims
+pub sum_of_floors : {C : Type 0} (asks : C → ℕ) (room total : ℕ) (cs : List C) → sum_by (λ c. asks c * room / total) cs ≡ sum_of (rounded_down room total (map asks cs))
+sum_of_floors asks room total cs = sum_of_wants (λ c. asks c * room / total) cs ∙ ap sum_of (sym (map-map (λ w. w * room / total) asks cs))
 
-pub wants_parts : (w : ℕ) (ws : List ℕ) → all_within (w ∷ ws) ≡ true → (w ≤ 1995262314) × (all_within ws ≡ true)
-wants_parts w ws h =
-    let both = and_parts (leb w 1995262314) (all_within ws) h in
-    (leb-true w 1995262314 both.0, both.1)
+pub floors_within : {C : Type 0} (asks : C → ℕ) (room total : ℕ) (cs : List C) → total ≡ sum_by asks cs → room < total → sum_by (λ c. asks c * room / total) cs ≤ room
+floors_within asks room total cs e h = omega (arith, sum_of_floors asks room total cs, floors_room room total (map asks cs) (e ∙ sum_of_wants asks cs) h)
 
-pub sum_bound : (ws : List ℕ) → all_within ws ≡ true → sum_of ws ≤ length ws * 1995262314
-sum_bound [] h = omega arith
-sum_bound (w ∷ ws) h =
-    let both = wants_parts w ws h in
-    omega (arith, both.0, sum_bound ws both.1)
+-- no claim wants more than the largest power
+pub each_within : {C : Type 0} (asks : C → ℕ) (cs : List C) → all_within (map asks cs) ≡ true → All (λ c. asks c ≤ 1995262314) cs
+each_within asks cs h k d i = leb-true _ _ (AllPass-from_list_all (λ c. leb (asks c) 1995262314) cs (sym (list_all-map _ asks cs) ∙ h) k d i)
 
 pub scaled_bound : (w room : ℕ) → w ≤ 1995262314 → room ≤ 1995262314 → w * room < 2 ^ 62
 scaled_bound w room h k = omega (arith, mul-le w room 1995262314 1995262314 h k)
 
--- a split is allowed where each test passes, and not where one fails
-module _ (ws : List ℕ) (room n : ℕ) (count : n ≡ length ws) where
-  pub all_pass : (t : Bool) → leb n 8 ≡ true → leb room 1995262314 ≡ true → t ≡ all_within ws → t ≡ allowed ws room
-  all_pass t p q e = rw (← count, p, q) e
-
-  pub room_fails : leb n 8 ≡ true → leb room 1995262314 ≡ false → false ≡ allowed ws room
-  room_fails p q = rw (← count, p, q) refl
-
-  pub count_fails : leb n 8 ≡ false → false ≡ allowed ws room
-  count_fails p = rw (← count, p) refl
+-- the limits, tested on the claims themselves
+pub allowed_claims : {C : Type 0} (asks : C → ℕ) (cs : List C) (room : ℕ) → length cs ≤ 8 → room ≤ 1995262314 → allowed (map asks cs) room ≡ list_all (λ c. leb (asks c) 1995262314) cs
+allowed_claims asks cs room few low = rw (length-map cs asks, le-leb _ _ few, le-leb _ _ low) (list_all-map _ asks cs)
 
 pub allowed_parts : (ws : List ℕ) (room : ℕ) → allowed ws room ≡ true → (length ws ≤ 8) × (room ≤ 1995262314) × (all_within ws ≡ true)
 allowed_parts ws room h =
@@ -43,15 +40,7 @@ allowed_parts ws room h =
     let rest = and_parts (leb room 1995262314) (all_within ws) few.1 in
     (leb-true (length ws) 8 few.0, leb-true room 1995262314 rest.0, rest.1)
 
-pub answer_no : (ws : List ℕ) (room : ℕ) → allowed ws room ≡ false → Err OutOfRange ≡ answer ws room
-answer_no ws room e = sym (cond-false (allowed ws room) _ _ e)
-
-pub answer_yes : (ws : List ℕ) (room : ℕ) → allowed ws room ≡ true → Ok tt ≡ answer ws room
-answer_yes ws room e = sym (cond-true (allowed ws room) _ _ e)
-
-module _ {C : Type 0} (asks : C → ℕ) (given : C → ℕ → C) (cs : List C) (room : ℕ) where
-  pub after_no : allowed (map asks cs) room ≡ false → cs ≡ after asks given cs room
-  after_no e = sym (cond-false (allowed (map asks cs) room) _ _ e)
-
-  pub after_yes : allowed (map asks cs) room ≡ true → with_grants given cs (split_of (map asks cs) room) ≡ after asks given cs room
-  after_yes e = sym (cond-true (allowed (map asks cs) room) _ _ e)
+pub total_fits : {C : Type 0} (asks : C → ℕ) (cs : List C) (room : ℕ) → allowed (map asks cs) room ≡ true → sum_by asks cs < 2 ^ 64
+total_fits asks cs room h =
+    let parts = allowed_parts (map asks cs) room h in
+    omega (arith, parts.0, length-map cs asks, sum_by-le asks 1995262314 cs (each_within asks cs parts.2))

@@ -1,5 +1,6 @@
 -- How a room is split among wants.
-use Rattle.std.specs.Prelude.{ℕ, ◌+◌, ◌-◌, ◌*◌, ◌/◌, ◌%◌, Bool, true, cond, ◌&&◌, List, [], ◌∷◌, nat_le, nat_lt}
+use Rattle.std.specs.Prelude.{ℕ, ◌+◌, ◌-◌, ◌*◌, ◌/◌, ◌%◌, Bool, cond, ◌&&◌, List, [], ◌∷◌, map, nat_le, nat_lt}
+use Rattle.std.specs.List.{list_all}
 
 -- what a list of numbers adds up to
 abbrev pub sum_of : List ℕ → ℕ
@@ -8,8 +9,7 @@ sum_of (n ∷ ns) = n + sum_of ns
 
 -- each want's share of the room, want × room ÷ (sum of wants), rounded down
 abbrev pub rounded_down : (room sum : ℕ) → List ℕ → List ℕ
-rounded_down room sum [] = []
-rounded_down room sum (w ∷ ws) = w * room / sum ∷ rounded_down room sum ws
+rounded_down room sum wants = map (λ w. w * room / sum) wants
 
 -- one nanowatt, where the division left a remainder and something is left over
 abbrev pub extra : (remainder leftover : ℕ) → ℕ
@@ -30,8 +30,7 @@ split_of wants room =
 
 -- no want is above the largest power, 33 dBm
 abbrev pub all_within : List ℕ → Bool
-all_within [] = true
-all_within (w ∷ ws) = nat_le w 1995262314 && all_within ws
+all_within wants = list_all (λ w. nat_le w 1995262314) wants
 
 -- each claim with its grant
 abbrev pub with_grants : {C : Type 0} → (C → ℕ → C) → List C → List ℕ → List C

@@ -2,20 +2,19 @@
 
 #![tactic(auto)]
 
-ghost use Rattle.std.specs.Prelude.{◌≡◌, ◌<◌, ◌≤◌, true, map, length, Err, OnOk, nat_le};
-ghost use Rattle.split.specs.Shares.{sum_of, rounded_down, extra, with_leftovers, split_of, all_within, with_grants};
+ghost use Rattle.std.specs.Prelude.{◌≡◌, ◌*◌, ◌/◌, ◌^◌, ◌<◌, ◌≤◌, true, map, Err, OnOk, nat_le};
+ghost use Rattle.std.specs.List.{sum_by, list_all, All};
+ghost use Rattle.split.specs.Shares.{extra, with_leftovers, split_of, with_grants};
 ghost use Rattle.split.specs.Answer.{allowed, answer, after};
 ghost use Rattle.split.specs.Laws.{WholeWhereTheyFit, RoomSpentExactly, NoMoreThanWanted, WithinOneNanowatt, LeftoversInOrder};
 
 use refusals::Refusal;
 
+mod cell_claim;
 mod claim;
-mod data_claim;
-mod sounding_claim;
 
+pub use cell_claim::{CellClaim, DataClaim, SoundingClaim};
 pub use claim::Claim;
-pub use data_claim::DataClaim;
-pub use sounding_claim::SoundingClaim;
 
 /// The most that a want or the room may be, in nanowatts: 33 dBm.
 pub const MAX_NANOWATTS: u64 = 1_995_262_314;
@@ -23,71 +22,50 @@ pub const MAX_NANOWATTS: u64 = 1_995_262_314;
 /// The most claims that one split takes.
 pub const MAX_CLAIMS: usize = 8;
 
-/// Whether one split takes so many claims.
-fn few(count: usize) -> bool
-    ensures { result ≡ nat_le count 8 }
-{
-    count <= MAX_CLAIMS
-}
-
-/// Whether a power is at most the largest.
-fn within(nanowatts: u64) -> bool
-    ensures { result ≡ nat_le nanowatts 1995262314 }
-{
-    nanowatts <= MAX_NANOWATTS
-}
-
 /// Whether no claim wants more than the largest power.
 fn wants_within<C: Claim>(claims: &[C]) -> bool
-    ensures { result ≡ all_within (map C.asks claims.now) }
+    ensures { result ≡ list_all (λ c. nat_le (C.asks c) 1995262314) claims.now }
 {
-    for claim in claims {
-        if !within(claim.want()) {
-            return false;
-        }
-    }
-    true
+    claims.iter().all(|claim| claim.want() <= MAX_NANOWATTS)
 }
 
 /// Whether the claims and the room are within the limits of a split.
+#[tactic(auto, using(crate::proofs::Allowed::allowed_claims))]
 fn is_allowed<C: Claim>(claims: &[C], room: u64) -> bool
     ensures { result ≡ allowed (map C.asks claims.now) room }
 {
-    if !few(claims.len()) {
-        return false;
-    }
-    if !within(room) {
-        return false;
-    }
-    wants_within(claims)
+    claims.len() <= MAX_CLAIMS && room <= MAX_NANOWATTS && wants_within(claims)
 }
 
 /// What the claims want together.
 fn total_want<C: Claim>(claims: &[C]) -> u64
-    requires few { length claims.now ≤ 8 }
-    requires small { all_within (map C.asks claims.now) ≡ true }
-    ensures { result ≡ sum_of (map C.asks claims.now) }
+    requires { sum_by C.asks claims.now < 2 ^ 64 }
+    ensures { result ≡ sum_by C.asks claims.now }
 {
-    let mut total = 0;
-    for claim in claims {
-        total += claim.want();
-    }
-    total
+    claims.iter().map(|claim| claim.want()).sum()
 }
 
-/// What the shares, rounded down, come to.
-fn floor_sum<C: Claim>(claims: &[C], room: u64, total: u64) -> u64
-    requires small { all_within (map C.asks claims.now) ≡ true }
-    requires limit { room ≤ 1995262314 }
-    requires short { room < total }
-    requires whole { total ≡ sum_of (map C.asks claims.now) }
-    ensures { result ≡ sum_of (rounded_down room total (map C.asks claims.now)) }
-{
-    let mut sum = 0;
-    for claim in claims {
-        sum += claim.want() * room / total;
+/// A room that is less than what the claims on it want together.
+#[derive(Clone, Copy)]
+struct Shortage {
+    room: u64,
+    total: u64,
+    ghost limited: { room ≤ 1995262314 },
+    ghost short: { room < total },
+}
+
+impl Shortage {
+    /// What the shares, rounded down, come to.
+    fn floor_sum<C: Claim>(&self, claims: &[C]) -> u64
+        requires small { All (λ c. C.asks c ≤ 1995262314) claims.now }
+        requires fits { sum_by (λ c. C.asks c * self.now.room / self.now.total) claims.now < 2 ^ 64 }
+        ensures { result ≡ sum_by (λ c. C.asks c * self.now.room / self.now.total) claims.now }
+    {
+        claims
+            .iter()
+            .map(|claim| claim.want() * self.room / self.total)
+            .sum()
     }
-    sum
 }
 
 /// Grants each claim what it wants.
@@ -104,38 +82,36 @@ fn grant_whole<C: Claim>(claims: &mut [C])
 fn one_more(remainder: u64, leftover: u64) -> u64
     ensures { result ≡ extra remainder leftover }
 {
-    if remainder > 0 && leftover > 0 { 1 } else { 0 }
+    u64::from(remainder > 0 && leftover > 0)
 }
 
 /// Grants each claim its share of the room, and what is left over one by one, in order, where a share was rounded.
-fn grant_shares<C: Claim>(claims: &mut [C], room: u64, total: u64, leftover: u64)
-    requires small { all_within (map C.asks claims.old) ≡ true }
-    requires limit { room ≤ 1995262314 }
-    requires short { room < total }
-    ensures { claims.new ≡ with_grants C.given claims.old (with_leftovers room total leftover (map C.asks claims.old)) }
+fn grant_shares<C: Claim>(claims: &mut [C], shortage: &Shortage, leftover: u64)
+    requires { All (λ c. C.asks c ≤ 1995262314) claims.old }
+    ensures { claims.new ≡ with_grants C.given claims.old (with_leftovers shortage.now.room shortage.now.total leftover (map C.asks claims.old)) }
 {
     let mut left = leftover;
     for claim in claims.iter_mut() {
-        let scaled = claim.want() * room;
-        let more = one_more(scaled % total, left);
-        claim.grant(scaled / total + more);
+        let scaled = claim.want() * shortage.room;
+        let more = one_more(scaled % shortage.total, left);
+        claim.grant(scaled / shortage.total + more);
         left -= more;
     }
 }
 
 /// Grants each claim what it wants where the wants fit the room, and else its share.
+// Claims and room stay apart: the claims are lent and changed, the room is a number.
 fn grant_room<C: Claim>(claims: &mut [C], room: u64)
-    requires few { length claims.old ≤ 8 }
-    requires small { all_within (map C.asks claims.old) ≡ true }
-    requires limit { room ≤ 1995262314 }
+    requires { allowed (map C.asks claims.old) room ≡ true }
     ensures { claims.new ≡ with_grants C.given claims.old (split_of (map C.asks claims.old) room) }
 {
     let total = total_want(claims);
     if total <= room {
         grant_whole(claims);
     } else {
-        let leftover = room - floor_sum(claims, room, total);
-        grant_shares(claims, room, total, leftover);
+        let shortage = Shortage { room, total };
+        let leftover = room - shortage.floor_sum(claims);
+        grant_shares(claims, &shortage, leftover);
     }
 }
 

@@ -1,3 +1,4 @@
+pub mod Numbers
 pub mod Totals
 pub mod Wanted
 pub mod States

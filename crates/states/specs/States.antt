@@ -6,14 +6,15 @@ use Rattle.sharing.specs.Guarantees.{shares_of}
 use Rattle.cells.specs.declared.cell.Cell.{Cell}
 use Rattle.cells.specs.declared.wants.CellWants.{CellWants}
 use Rattle.cells.specs.Cells.{unset_cell}
-use Rattle.settling.specs.declared.outcome.GroupPowers.{GroupPowers}
+use Rattle.sharing.specs.declared.groups.PerGroup.{PerGroup}
+use Rattle.settling.specs.declared.outcome.Power.{Power}
 use Rattle.settling.specs.Classes.{no_wants}
 use Rattle.states.specs.declared.shares.PowerShares.{PowerShares}
 use Rattle.states.specs.declared.state.State.{State}
 use Rattle.states.specs.declared.state.Subframe.{Subframe}
 use Rattle.states.specs.declared.state.Subframe.TheVariants.{Idle, Open, Settled}
 
-abbrev pub no_sums : GroupPowers
+abbrev pub no_sums : PerGroup Power
 no_sums = record { master = record { wanted = 0; granted = 0 }; secondary = record { wanted = 0; granted = 0 } }
 
 -- a new terminal: a total of 23 dBm, half of it guaranteed to each group, no cell set
@@ -58,7 +59,7 @@ wants_in Idle = nothing_wanted
 wants_in (Open ws) = ws
 wants_in (Settled ws o) = ws
 
-abbrev pub groups_in : Subframe → GroupPowers
+abbrev pub groups_in : Subframe → PerGroup Power
 groups_in Idle = no_sums
 groups_in (Open ws) = no_sums
 groups_in (Settled ws o) = o.groups

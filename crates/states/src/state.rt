@@ -1,7 +1,8 @@
 // What a terminal keeps, as plain values.
 ghost use Rattle.std.specs.Prelude.{◌≡◌};
-ghost use Rattle.states.specs.States.{fresh, is_busy, open_as, settled_as};
+ghost use Rattle.states.specs.States.{fresh, cell_at, is_busy, open_as, settled_as};
 
+use crate::number::CellNumber;
 use crate::shares::PowerShares;
 use cells::{Cell, CellWants};
 use levels::Level;
@@ -58,6 +59,13 @@ impl State {
             sums: NO_POWERS,
             subframe: Subframe::Idle,
         }
+    }
+
+    /// The cell of a number.
+    pub fn cell(&self, number: CellNumber) -> Cell
+        ensures { result ≡ cell_at self.now number }
+    {
+        self.cells[number.place()]
     }
 
     /// Whether a subframe is open, or settled and not done with.

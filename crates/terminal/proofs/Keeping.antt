@@ -1,54 +1,50 @@
 -- What every terminal keeps to is kept by each change.
-use Rattle.std.proofs.Common.{◌≡◌, ℕ, zero, suc, ◌+◌, ◌<◌, ◌≤◌, Bool, true, false, not, ◌&&◌, eqb, ltb, leb, List, [], ◌∷◌, ◌++◌, get_or, set, pos, None, sym, refl, subst, arith}
+use Rattle.std.proofs.Common.{◌≡◌, ℕ, zero, suc, ◌+◌, ◌≤◌, Bool, false, not, ◌&&◌, eqb, ltb, Option, Result, Ok, Err, List, [], ◌∷◌, ◌++◌, get_or, set, pos, None, refl, arith}
 use mathlib.Core.Logic.{∥∥₁_elim, ∥∥₁_prop}
-use Rattle.std.proofs.lemmas.Bool.{le-ltb, leb-false}
+use Rattle.std.proofs.lemmas.Bool.{le-ltb}
 use Rattle.levels.specs.Levels.{W, scaled, mantissas, power}
 use Rattle.levels.proofs.Rule.{monotone}
 use Rattle.refusals.specs.declared.Refusal.{Refusal}
-use Rattle.refusals.specs.declared.Refusal.TheVariants.{Busy, NoSuchCell, NoSuchSubframe, NoMoreSubframes}
+use Rattle.refusals.specs.declared.Refusal.TheVariants.{NoSuchCell, NoSuchSubframe}
 use Rattle.cells.specs.declared.wants.RawWant.{RawWant}
-use Rattle.states.specs.Admission.{refuses_open, refuses_want_of, refuses_want, refuses_open_ticket}
-use Rattle.refusals.specs.declared.Condition.{Condition}
+use Rattle.states.specs.Admission.{refuses_want_of, refuses_want, refuses_open_ticket}
+use Rattle.refusals.proofs.Answered.{not_held}
+use Rattle.refusals.proofs.Firsts.{first_stands}
 use Rattle.cells.proofs.InTurn.{all_in_range}
 use Rattle.settling.specs.AddUp.{Settleable}
-use Rattle.sharing.specs.Guarantees.{shares_refusal}
+use Rattle.sharing.specs.declared.groups.Shares.{Shares}
+use Rattle.sharing.specs.declared.budget.Budget.{Budget}
+use Rattle.sharing.specs.Guarantees.{shares_refusal, amounts}
+use Rattle.std.specs.Result.{IsOk}
 use Rattle.states.specs.declared.shares.PowerShares.{PowerShares}
 use Rattle.states.specs.declared.state.Subframe.TheVariants.{Idle, Open, Settled}
 use Rattle.std.proofs.Props.{props}
 use Rattle.std.proofs.lemmas.Int.{ints}
-use Rattle.std.proofs.ByRecursion.{All-set}
 use Rattle.std.specs.List.{AllByRecursion}
 use Rattle.cells.specs.declared.cell.Cell.{Cell}
 use Rattle.std.proofs.lemmas.Bool.Decides.{nat_tests}
-use Rattle.refusals.specs.First.{when, first_that_holds, NoneHolds}
+use Rattle.refusals.specs.First.{when, first_that_holds, refused_or, NoneHolds}
 use Rattle.cells.specs.Ranges.{loss_conditions}
-use Rattle.cells.specs.Cells.{unset_cell, CellInRange}
+use Rattle.cells.specs.Cells.{CellInRange}
 use Rattle.states.specs.declared.state.State.{State}
 use Rattle.states.specs.declared.state.Subframe.{Subframe}
 use Rattle.states.specs.Totals.{SharesKept}
-use Rattle.states.specs.States.{fresh, is_open, open_as, is_busy, shares_in_force, no_cell, cell_at, nothing_wanted, wants_in, with_cell, with_shares}
-use Rattle.sharing.specs.declared.groups.Group.TheVariants.{Master, Secondary}
-use Rattle.cells.specs.WantRanges.{want_conditions, want_of, WantsInRange}
-use Rattle.settling.specs.Classes.{no_wants}
-use Rattle.terminal.specs.Changes.{subframe_opened, subframe_ended}
+use Rattle.states.specs.States.{is_open, open_as, shares_in_force, no_cell, wants_in, with_cell}
+use Rattle.cells.specs.WantRanges.{want_conditions, want_of}
 use Rattle.terminal.specs.Settled.{moved_cells, settlement, settled_state}
 use Rattle.terminal.specs.Kept.{LoopLimits, WantsKept, SumsWithin, pending}
 
--- a cell in range in the place of another
-cell_replaced : (ks : List Cell) (i : ℕ) (k : Cell) → CellInRange k → ∥ AllByRecursion CellInRange ks ∥₁ → ∥ AllByRecursion CellInRange (set ks i k) ∥₁
-cell_replaced ks i k h all = ∥∥₁_elim all ∥∥₁_prop (λ r. ∣ All-set CellInRange ks i k h r ∣₁)
-
+-- the limits of the loops, outright
 in_limits_at : (ks : List Cell) → AllByRecursion CellInRange ks → LoopLimits ks
 in_limits_at [] r i h = (omega (arith, ints), omega (arith, ints), omega (arith, ints), omega (arith, ints))
 in_limits_at (k ∷ ks) r zero h = (r.0.of_data_loop.low, r.0.of_data_loop.high, r.0.of_control_loop.low, r.0.of_control_loop.high)
 in_limits_at (k ∷ ks) r (suc i) h = in_limits_at ks r.1 i (omega arith)
 
--- the limits of the loops, outright
-limits : (ks : List Cell) → ∥ AllByRecursion CellInRange ks ∥₁ → LoopLimits ks
+pub limits : (ks : List Cell) → ∥ AllByRecursion CellInRange ks ∥₁ → LoopLimits ks
 limits ks all i h = ∥∥₁_elim all (hlevel props) (λ r. in_limits_at ks r i h)
 
 -- the cell in a place, changed so that it stays in range
-cell_changed : (ks : List Cell) (i : ℕ) (k : Cell) → (CellInRange (get_or ks i no_cell) → CellInRange k) → ∥ AllByRecursion CellInRange ks ∥₁ → ∥ AllByRecursion CellInRange (set ks i k) ∥₁
+pub cell_changed : (ks : List Cell) (i : ℕ) (k : Cell) → (CellInRange (get_or ks i no_cell) → CellInRange k) → ∥ AllByRecursion CellInRange ks ∥₁ → ∥ AllByRecursion CellInRange (set ks i k) ∥₁
 cell_changed ks i k stays all = ∥∥₁_elim all ∥∥₁_prop (λ r. ∣ at ks i stays r ∣₁)
   where
     at : (xs : List Cell) (j : ℕ) → (CellInRange (get_or xs j no_cell) → CellInRange k) → AllByRecursion CellInRange xs → AllByRecursion CellInRange (set xs j k)
@@ -59,19 +55,6 @@ cell_changed ks i k stays all = ∥∥₁_elim all ∥∥₁_prop (λ r. ∣ at 
 pub loss_in_range : (n : ℕ) → n ≤ 200 → NoneHolds (loss_conditions n)
 loss_in_range n h = (grind (arith, nat_tests), tt)
 
--- no wants at all
-pub nothing_kept : ∥ WantsKept nothing_wanted ∥₁
-nothing_kept = ∣ record { in_range = none_in_range; alone = record { first_class = elim [ Master ↦ omega arith | Secondary ↦ omega arith ]; second_class = elim [ Master ↦ omega arith | Secondary ↦ omega arith ] } } ∣₁
-  where
-    none : WantsInRange no_wants
-    none = record { of_control = tt; of_data = tt; of_sounding = tt }
-
-    none_in_range : AllByRecursion WantsInRange nothing_wanted
-    none_in_range = (none, (none, (none, (none, (none, (none, (none, (none, tt))))))))
-
-idle_left : (n : ℕ) (f : Subframe) → n + pending f ≤ 864000000 → n + 0 ≤ 864000000
-idle_left n f h = omega arith
-
 -- all of it together
 pub record Kept (s : State) : Type 0 where
   pub shares : SharesKept s.shares
@@ -80,22 +63,6 @@ pub record Kept (s : State) : Type 0 where
   pub wants : ∥ WantsKept (wants_in s.subframe) ∥₁
   pub sums : SumsWithin s.settled s.sums
   pub left : s.settled + pending s.subframe ≤ 864000000
-
-unset : CellInRange unset_cell
-unset = record { of_settings = tt; of_loss = (refl, tt); of_data_loop = record { low = omega (arith, ints); high = omega (arith, ints) }; of_control_loop = record { low = omega (arith, ints); high = omega (arith, ints) } }
-
-none_set : AllByRecursion CellInRange fresh.cells
-none_set = (unset, (unset, (unset, (unset, (unset, (unset, (unset, (unset, tt))))))))
-
-pub fresh_kept : (s : State) → s ≡ fresh → Kept s
-fresh_kept s e = subst Kept (sym e) (record {
-  shares = (omega (arith, ints), omega arith);
-  cells = ∣ none_set ∣₁;
-  loops = limits fresh.cells ∣ none_set ∣₁;
-  wants = nothing_kept;
-  sums = ((omega arith, omega arith), (omega arith, omega arith));
-  left = omega arith;
-})
 
 -- the total that is kept is at most that of 33 dBm
 at_330 : W (pos 330) ≡ 1995262314
@@ -114,19 +81,23 @@ shares_not_refused h k =
     let both : ltb 100 (h.master + h.secondary) ≡ false = le-ltb 100 (h.master + h.secondary) k.1 in
     rw (total, master, secondary, both) refl
 
+-- a budget that is not refused is there
+pub budget_is_ok : (r : Result Budget Refusal) (o : Option Refusal) (x : Shares) → o ≡ None → amounts r ≡ refused_or o x → IsOk r
+budget_is_ok (Ok b) o x none is = refl
+budget_is_ok (Err e) o x none is = cc
+
 -- an open subframe is still to count
 was_open : (s : State) (n : ℕ) → not (open_as s n) ≡ false → pending s.subframe ≡ 1
 was_open s n e = by s.subframe (eqb n s.settled) e
   where
     by : (f : Subframe) (same : Bool) → not (is_open f && same) ≡ false → pending f ≡ 1
-    by Idle same e = let z : ◌≡◌ {A = ℕ} 0 1 = cc in absurd (omega arith)
+    by Idle same e = cc
     by (Open ws) same e = refl
-    by (Settled ws o) same e = let z : ◌≡◌ {A = ℕ} 0 1 = cc in absurd (omega arith)
+    by (Settled ws o) same e = cc
 
 -- the first condition of a call that was admitted does not hold
-first_passed : (b : Bool) (e : Refusal) (cs : List Condition) → first_that_holds (when b e ∷ cs) ≡ None → b ≡ false
-first_passed true e cs h = let z : ◌≡◌ {A = ℕ} 0 1 = cc in absurd (omega arith)
-first_passed false e cs h = refl
+first_passed : (b : Bool) (e : Refusal) (cs : List (Option Refusal)) → first_that_holds (when b e ∷ cs) ≡ None → b ≡ false
+first_passed b e cs h = not_held b e ((first_stands (when b e ∷ cs)).nothing h).0
 
 pub open_for_want : (s : State) (n k : ℕ) (r : RawWant) → first_that_holds (refuses_want s n k r) ≡ None → pending s.subframe ≡ 1
 open_for_want s n k r none = was_open s n (first_passed (not (open_as s n)) NoSuchSubframe (when (ltb 7 k) NoSuchCell ∷ (want_conditions r ++ refuses_want_of s k (want_of r))) none)
@@ -152,31 +123,6 @@ settled_kept rule s k one most =
       sums = ((omega (arith, sums, most), omega (arith, sums, most)), (omega (arith, sums, most), omega (arith, sums, most)));
       left = omega (arith, k.left, one);
     }
-
--- each change keeps it
-pub cell_kept : (s after : State) (i : ℕ) (c : Cell) → Kept s → CellInRange c → after ≡ with_cell s i c → Kept after
-cell_kept s after i c k h is =
-    let all = cell_replaced s.cells i c h k.cells in
-    subst Kept (sym is) (record { shares = k.shares; cells = all; loops = limits (set s.cells i c) all; wants = k.wants; sums = k.sums; left = k.left })
-
-pub changed_kept : (s after : State) (i : ℕ) (c : Cell) → Kept s → (CellInRange (cell_at s i) → CellInRange c) → after ≡ with_cell s i c → Kept after
-changed_kept s after i c k stays is =
-    let all = cell_changed s.cells i c stays k.cells in
-    subst Kept (sym is) (record { shares = k.shares; cells = all; loops = limits (set s.cells i c) all; wants = k.wants; sums = k.sums; left = k.left })
-
-pub shares_put_kept : (s after : State) (h : PowerShares) → Kept s → SharesKept h → after ≡ with_shares s h → Kept after
-shares_put_kept s after h k kept is = subst Kept (sym is) (record { shares = kept; cells = k.cells; loops = k.loops; wants = k.wants; sums = k.sums; left = k.left })
-
-pub opened_kept : (s after : State) → Kept s → first_that_holds (refuses_open s) ≡ None → after ≡ subframe_opened s → Kept after
-opened_kept s after k none is =
-    subst Kept (sym is) (record { shares = k.shares; cells = k.cells; loops = k.loops; wants = nothing_kept; sums = k.sums; left = omega (arith, few (is_busy s.subframe) s.settled none) })
-  where
-    few : (b : Bool) (n : ℕ) → first_that_holds (when b Busy ∷ when (leb 864000000 n) NoMoreSubframes ∷ []) ≡ None → n < 864000000
-    few true n e = let z : ◌≡◌ {A = ℕ} 0 1 = cc in absurd (omega arith)
-    few false n e = omega (arith, leb-false 864000000 n (first_passed (leb 864000000 n) NoMoreSubframes [] e))
-
-pub ended_kept : (s after : State) → Kept s → after ≡ subframe_ended s → Kept after
-ended_kept s after k is = subst Kept (sym is) (record { shares = k.shares; cells = k.cells; loops = k.loops; wants = nothing_kept; sums = k.sums; left = idle_left s.settled s.subframe k.left })
 
 -- a changed state, from its changed part
 pub cell_put : (s : State) (i j : ℕ) (k l : Cell) → i ≡ j → k ≡ l → with_cell s i k ≡ with_cell s j l

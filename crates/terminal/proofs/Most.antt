@@ -12,7 +12,8 @@ use Rattle.cells.specs.declared.wants.CellWants.{CellWants}
 use Rattle.cells.specs.Every.{all_wanted}
 use Rattle.cells.proofs.InTurn.{all_within}
 use Rattle.settling.specs.Outcomes.{none_made, ranks_of, served_ranks, outcome_of}
-use Rattle.settling.specs.declared.outcome.GroupPowers.{GroupPowers}
+use Rattle.sharing.specs.declared.groups.PerGroup.{PerGroup}
+use Rattle.settling.specs.declared.outcome.Power.{Power}
 use Rattle.settling.specs.declared.outcome.Outcome.{Outcome}
 use Rattle.settling.specs.AddUp.{CellsAddUp, Settleable}
 use Rattle.settling.proofs.AddsUp.{cells_add_up}
@@ -33,7 +34,7 @@ module _ (rule : ℕ → ℕ → ℕ) (b : Shares) (cs : List Cell) (ws : List C
       )
 
 -- so nothing else is shown by it than these bounds, and that the cells add up
-powers_prop : (n : ℕ) (g : GroupPowers) → IsProp (SumsWithin n g)
+powers_prop : (n : ℕ) (g : PerGroup Power) → IsProp (SumsWithin n g)
 powers_prop n g p q = λ i. ((le_prop p.0.0 q.0.0 i, le_prop p.0.1 q.0.1 i), (le_prop p.1.0 q.1.0 i, le_prop p.1.1 q.1.1 i))
 
 adds_up_prop : (o : Outcome) → IsProp (CellsAddUp o)

@@ -1,5 +1,5 @@
 -- The wants of a subframe with one more.
-use Rattle.std.proofs.Common.{◌≡◌, ℕ, zero, suc, ◌+◌, ◌≤◌, Bool, true, false, cond, ◌&&◌, eqb, ltb, ◌⊎◌, List, [], ◌∷◌, get_or, sym, refl, ap, subst, inl, inr, ⊎_elim, arith}
+use Rattle.std.proofs.Common.{◌≡◌, ℕ, zero, suc, ◌+◌, ◌≤◌, true, false, cond, ◌&&◌, eqb, ltb, ◌⊎◌, List, [], ◌∷◌, get_or, sym, refl, ap, subst, inl, inr, ⊎_elim, arith}
 use mathlib.Core.Logic.{∥∥₁_elim, ∥∥₁_prop}
 use Rattle.std.proofs.lemmas.Bool.{ltb-false, le-ltb}
 use Rattle.std.proofs.lemmas.Bool.Decides.{nat_tests}
@@ -20,8 +20,7 @@ use Rattle.states.specs.Wanted.{group_of, has_kind, with_want, is_single, given_
 use Rattle.states.specs.declared.state.State.{State}
 use Rattle.states.specs.declared.state.Subframe.TheVariants.{Open}
 use Rattle.states.specs.States.{wants_in, with_subframe}
-use Rattle.terminal.specs.Kept.{WantsKept, pending}
-use Rattle.terminal.proofs.Keeping.{Kept}
+use Rattle.terminal.specs.Kept.{WantsKept}
 
 -- a want in range beside others in range
 with_in_range : (w : Want) (ws : CellWants) → WantInRange w → WantsInRange ws → WantsInRange (with_want w ws)
@@ -108,9 +107,6 @@ module _ (ws : List CellWants) (k : ℕ) (w : Want) (new : given_already ws k w 
       none_of : (own : Class) → (true && ltb 0 (over_group (claims_in own) no_wants ws (group_of k))) ≡ false → over_group (claims_in own) no_wants ws (group_of k) ≡ 0
       none_of own e = omega (arith, ltb-false 0 (over_group (claims_in own) no_wants ws (group_of k)) e)
 
-      never : ◌≡◌ {A = Bool} false true → ⊥
-      never s = let z : ◌≡◌ {A = ℕ} 0 1 = cc in omega arith
-
       by_class : (own c : Class) → is_single c ≡ true → (is_single own && ltb 0 (over_group (claims_in own) no_wants ws (group_of k))) ≡ false →
           (one_if own c ≡ 0) ⊎ ((one_if own c ≡ 1) × (over_group (claims_in c) no_wants ws (group_of k) ≡ 0))
       by_class Acknowledgement Acknowledgement s e = inr (refl, none_of Acknowledgement e)
@@ -121,14 +117,8 @@ module _ (ws : List CellWants) (k : ℕ) (w : Want) (new : given_already ws k w 
       by_class DataOnly ControlInformation s e = inl refl
       by_class SoundingClass Acknowledgement s e = inl refl
       by_class SoundingClass ControlInformation s e = inl refl
-      by_class Acknowledgement DataOnly s e = absurd (never s)
-      by_class ControlInformation DataOnly s e = absurd (never s)
-      by_class DataOnly DataOnly s e = absurd (never s)
-      by_class SoundingClass DataOnly s e = absurd (never s)
-      by_class Acknowledgement SoundingClass s e = absurd (never s)
-      by_class ControlInformation SoundingClass s e = absurd (never s)
-      by_class DataOnly SoundingClass s e = absurd (never s)
-      by_class SoundingClass SoundingClass s e = absurd (never s)
+      by_class own DataOnly s e = cc
+      by_class own SoundingClass s e = cc
 
   alone_in : (c : Class) → is_single c ≡ true → ((X : Group) → over_group (claims_in c) no_wants ws X ≤ 1) → (X : Group) → over_group (claims_in c) no_wants (put_want ws k w) X ≤ 1
   alone_in c single before X =
@@ -145,11 +135,8 @@ module _ (ws : List CellWants) (k : ℕ) (w : Want) (new : given_already ws k w 
   }
 
 -- so a terminal keeps to it
-pub want_put_kept : (s after : State) (i : ℕ) (w : Want) → Kept s → pending s.subframe ≡ 1 → given_already (wants_in s.subframe) i w ≡ false → WantInRange w →
-    after ≡ with_subframe s (Open (put_want (wants_in s.subframe) i w)) → Kept after
-want_put_kept s after i w k one new h is =
-    let wants : ∥ WantsKept (put_want (wants_in s.subframe) i w) ∥₁ = ∥∥₁_elim k.wants ∥∥₁_prop (λ r. ∣ one_more (wants_in s.subframe) i w new h r ∣₁) in
-    subst Kept (sym is) (record { shares = k.shares; cells = k.cells; loops = k.loops; wants = wants; sums = k.sums; left = omega (arith, k.left, one) })
+pub more_kept : (ws : List CellWants) (k : ℕ) (w : Want) → given_already ws k w ≡ false → WantInRange w → ∥ WantsKept ws ∥₁ → (more : List CellWants) → more ≡ put_want ws k w → ∥ WantsKept more ∥₁
+more_kept ws k w new h kept more is = subst (λ (vs : List CellWants). ∥ WantsKept vs ∥₁) (sym is) (∥∥₁_elim kept ∥∥₁_prop (λ r. ∣ one_more ws k w new h r ∣₁))
 
 pub want_put : (s : State) (i j : ℕ) (w v : Want) → ◌≡◌ {A = ℕ × Want} (i, w) (j, v) → with_subframe s (Open (put_want (wants_in s.subframe) i w)) ≡ with_subframe s (Open (put_want (wants_in s.subframe) j v))
 want_put s i j w v same = let put : ℕ × Want → State = λ q. with_subframe s (Open (put_want (wants_in s.subframe) q.0 q.1)) in ap put same

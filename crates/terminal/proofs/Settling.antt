@@ -1,18 +1,16 @@
 -- A settled subframe, as the code reaches it.
-use Rattle.std.proofs.Common.{◌≡◌, ℕ, ◌+◌, List, length, sym, refl, ap, ◌∙◌, subst}
+use Rattle.std.proofs.Common.{◌≡◌, ℕ, List, length, sym, refl, ap, ◌∙◌, subst}
 use Rattle.sharing.specs.declared.groups.Shares.{Shares}
 use Rattle.cells.specs.declared.cell.Cell.{Cell}
 use Rattle.cells.specs.declared.wants.CellWants.{CellWants}
 use Rattle.cells.specs.Every.{all_moved}
-use Rattle.settling.specs.declared.outcome.GroupPowers.{GroupPowers}
 use Rattle.settling.specs.declared.outcome.Outcome.{Outcome}
 use Rattle.settling.specs.Outcomes.{outcome_of}
 use Rattle.settling.specs.AddUp.{CellsAddUp, Settleable}
 use Rattle.states.specs.declared.state.State.{State}
-use Rattle.states.specs.declared.state.Subframe.TheVariants.{Settled}
 use Rattle.states.specs.States.{wants_in, shares_in_force}
 use Rattle.terminal.specs.Kept.{SumsWithin, pending}
-use Rattle.terminal.specs.Settled.{more_powers, moved_cells, settlement, settled_state, SubframeAddsUp}
+use Rattle.terminal.specs.Settled.{moved_cells, settlement, settled_state}
 use Rattle.terminal.proofs.Keeping.{Kept, settled_kept}
 use Rattle.terminal.proofs.Most.{groups_within, adds_up}
 
@@ -32,10 +30,6 @@ module _ (rule : ℕ → ℕ → ℕ) (s : State) (cs : List Cell) (ws : List Ce
   pub within_powers : length cs ≡ length ws → ∥ Settleable (shares_in_force s) (moved_cells s) (wants_in s.subframe) ∥₁ → SumsWithin 1 o.groups
   within_powers e ok = subst (λ (p : Outcome). SumsWithin 1 p.groups) (sym outcome_is) (settled_within e ok)
 
-  pub settled_is : (p : GroupPowers) → p ≡ more_powers s.sums o.groups →
-      ◌≡◌ {A = State} (record { cells = cs; shares = s.shares; settled = s.settled + 1; sums = p; subframe = Settled ws o }) (settled_state rule s)
-  settled_is p e = rw (e, outcome_is, cells_are, wants) refl
-
   pub settled_adds_up : (Settleable b cs ws → CellsAddUp o) → ∥ Settleable (shares_in_force s) (moved_cells s) (wants_in s.subframe) ∥₁ → CellsAddUp (settlement rule s)
   settled_adds_up h ok =
       adds_up (settlement rule s) (shares_in_force s) (moved_cells s) (wants_in s.subframe)
@@ -44,6 +38,3 @@ module _ (rule : ℕ → ℕ → ℕ) (s : State) (cs : List Cell) (ws : List Ce
 -- what every terminal keeps to holds of the state that a settled subframe leaves
 pub left_by : (rule : ℕ → ℕ → ℕ) (s after : State) → Kept s → pending s.subframe ≡ 1 → SumsWithin 1 (settlement rule s).groups → after ≡ settled_state rule s → Kept after
 left_by rule s after k one most is = subst Kept (sym is) (settled_kept rule s k one most)
-
-pub subframe_adds_up : (rule : ℕ → ℕ → ℕ) (s after : State) → CellsAddUp (settlement rule s) → after ≡ settled_state rule s → SubframeAddsUp after.subframe
-subframe_adds_up rule s after h is = subst (λ (t : State). SubframeAddsUp t.subframe) (sym is) h

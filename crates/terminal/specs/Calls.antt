@@ -1,8 +1,7 @@
 -- Any call on the state s and the holding rule v.
-use Rattle.std.specs.Prelude.{◌≡◌, ℕ, List, Some, None, Ok, Err, Option, Result}
+use Rattle.std.specs.Prelude.{◌≡◌, ℕ, List, Err, Option, Result}
 use Rattle.refusals.specs.declared.Refusal.{Refusal}
-use Rattle.refusals.specs.declared.Condition.{Condition}
-use Rattle.refusals.specs.First.{first_that_holds, unchanged_or, FirstThatHolds}
+use Rattle.refusals.specs.First.{first_that_holds, refused_or, unchanged_or, FirstThatHolds}
 use Rattle.states.specs.declared.state.State.{State}
 use Rattle.states.specs.States.{groups_in}
 use Rattle.states.specs.Admission.{refuses_set, refuses_shares, refuses_loss, refuses_command, refuses_open, refuses_want, refuses_open_ticket, refuses_settled_ticket}
@@ -10,11 +9,12 @@ use Rattle.terminal.specs.declared.call.Call.{Call}
 use Rattle.terminal.specs.declared.call.Call.TheVariants as call
 use Rattle.terminal.specs.declared.call.Answer.{Answer}
 use Rattle.terminal.specs.declared.call.Answer.TheVariants as says
+use Rattle.terminal.specs.Pinned.{refusal_in}
 use Rattle.terminal.specs.Settled.{settled_state, rule_settled}
 use Rattle.terminal.specs.Changes.{cell_set, shares_given, loss_given, command_given, subframe_opened, want_given, subframe_ended}
 
 -- when it is refused
-abbrev pub conditions : State → Call → List Condition
+abbrev pub conditions : State → Call → List (Option Refusal)
 conditions s (call.Set k r) = refuses_set s k r
 conditions s (call.Shares r) = refuses_shares s r
 conditions s (call.Loss k loss) = refuses_loss s k loss
@@ -69,16 +69,8 @@ accepted_rule v (call.Done n) = v
 accepted_rule v (call.Drop n) = v
 
 -- a refused call answers its refusal and changes nothing
-abbrev pub refused_or_says : Option Refusal → Answer → Answer
-refused_or_says None a = a
-refused_or_says (Some e) a = says.Refused e
-
-abbrev pub told_of : Result Unit Refusal → Answer
-told_of (Ok u) = says.Accepted
-told_of (Err e) = says.Refused e
-
-abbrev pub answer_to : State → Call → Answer
-answer_to s c = refused_or_says (refusal s c) (result s c)
+abbrev pub answer_to : State → Call → Result Answer Refusal
+answer_to s c = refused_or (refusal s c) (result s c)
 
 abbrev pub state_after : (rule : ℕ → ℕ → ℕ) → State → Call → State
 state_after rule s c = unchanged_or (refusal s c) (accepted_state rule s c) s
@@ -86,19 +78,11 @@ state_after rule s c = unchanged_or (refusal s c) (accepted_state rule s c) s
 abbrev pub rule_after : {V : Type 0} → State → V → Call → V
 rule_after s v c = unchanged_or (refusal s c) (accepted_rule v c) v
 
--- the refusal of an answer, if it is one
-abbrev pub refused_by : Answer → Option Refusal
-refused_by (says.Refused e) = Some e
-refused_by says.Accepted = None
-refused_by (says.Opened n) = None
-refused_by (says.Settled n) = None
-refused_by (says.Groups g) = None
-
 -- a call that was made on the state s under the rule v
-pub record Performs {V : Type 0} (reserve : V → ℕ → ℕ → ℕ) (c : Call) (s after : State) (v left : V) (a : Answer) : Type 0 where
+pub record Performs {V : Type 0} (reserve : V → ℕ → ℕ → ℕ) (c : Call) (s after : State) (v left : V) (a : Result Answer Refusal) : Type 0 where
   pub answers : a ≡ answer_to s c
   pub leaves : after ≡ state_after (reserve v) s c
   pub leaves_rule : left ≡ rule_after s v c
   -- a number is answered exactly where its condition holds and none earlier in the order does
-  pub refused_exactly : FirstThatHolds (conditions s c) (refused_by a)
-  pub refused_changes_nothing : (e : Refusal) → a ≡ says.Refused e → (after ≡ s) × (left ≡ v)
+  pub refused_exactly : FirstThatHolds (conditions s c) (refusal_in a)
+  pub refused_changes_nothing : (e : Refusal) → a ≡ Err e → (after ≡ s) × (left ≡ v)

@@ -5,7 +5,7 @@ use Rattle.cells.specs.declared.cell.Cell.{Cell}
 use Rattle.cells.specs.declared.wants.CellWants.{CellWants}
 use Rattle.cells.specs.WantRanges.{WantsInRange}
 use Rattle.settling.specs.declared.outcome.Power.{Power}
-use Rattle.settling.specs.declared.outcome.GroupPowers.{GroupPowers}
+use Rattle.sharing.specs.declared.groups.PerGroup.{PerGroup}
 use Rattle.settling.specs.AddUp.{AloneInRank}
 use Rattle.states.specs.declared.state.Subframe.{Subframe}
 use Rattle.states.specs.declared.state.Subframe.TheVariants.{Idle, Open, Settled}
@@ -26,7 +26,7 @@ pub record WantsKept (ws : List CellWants) : Type 0 where
 abbrev pub PowerWithin : ℕ → Power → Type 0
 PowerWithin n p = (p.wanted ≤ n * 18000000000) × (p.granted ≤ n * 18000000000)
 
-abbrev pub SumsWithin : ℕ → GroupPowers → Type 0
+abbrev pub SumsWithin : ℕ → PerGroup Power → Type 0
 SumsWithin n g = PowerWithin n g.master × PowerWithin n g.secondary
 
 -- an open subframe is still to count

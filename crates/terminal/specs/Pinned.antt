@@ -1,7 +1,6 @@
 -- What every call keeps to: it is refused by the first of its conditions that holds and then changes nothing, or it is done.
 use Rattle.std.specs.Prelude.{◌≡◌, List, Some, None, Ok, Err, Option, Result}
 use Rattle.refusals.specs.declared.Refusal.{Refusal}
-use Rattle.refusals.specs.declared.Condition.{Condition}
 use Rattle.refusals.specs.First.{first_that_holds, refused_or, unchanged_or, FirstThatHolds}
 use Rattle.states.specs.declared.state.State.{State}
 
@@ -11,7 +10,7 @@ refusal_in (Ok x) = None
 refusal_in (Err e) = Some e
 
 -- A call with these conditions, on the state s and the holding rule v: it answers x and makes `made` of the state, unless it is refused.
-pub record RefusedOrDone {A V : Type 0} (conditions : List Condition) (x : A) (made s after : State) (v rule_after : V) (answer : Result A Refusal) : Type 0 where
+pub record RefusedOrDone {A V : Type 0} (conditions : List (Option Refusal)) (x : A) (made s after : State) (v rule_after : V) (answer : Result A Refusal) : Type 0 where
   pub answers : answer ≡ refused_or (first_that_holds conditions) x
   pub leaves : after ≡ unchanged_or (first_that_holds conditions) made s
   pub same_rule : rule_after ≡ v

@@ -1,5 +1,6 @@
 -- A list of calls, one after the other, on a state and a holding rule.
-use Rattle.std.specs.Prelude.{ℕ, List, [], ◌∷◌}
+use Rattle.std.specs.Prelude.{ℕ, List, [], ◌∷◌, Result}
+use Rattle.refusals.specs.declared.Refusal.{Refusal}
 use Rattle.states.specs.declared.state.State.{State}
 use Rattle.terminal.specs.declared.call.Call.{Call}
 use Rattle.terminal.specs.declared.call.Answer.{Answer}
@@ -10,7 +11,7 @@ module _ {V : Type 0} (reserve : V → ℕ → ℕ → ℕ) where
   after w c = (state_after (reserve w.1) w.0 c, rule_after w.0 w.1 c)
 
   -- what the calls are answered
-  abbrev pub answers : State × V → List Call → List Answer
+  abbrev pub answers : State × V → List Call → List (Result Answer Refusal)
   answers w [] = []
   answers w (c ∷ cs) = answer_to w.0 c ∷ answers (after w c) cs
 

@@ -3,7 +3,7 @@ use Rattle.std.specs.Prelude.{ℕ, ◌+◌, List}
 use Rattle.cells.specs.declared.cell.Cell.{Cell}
 use Rattle.cells.specs.Every.{all_moved}
 use Rattle.settling.specs.declared.outcome.Power.{Power}
-use Rattle.settling.specs.declared.outcome.GroupPowers.{GroupPowers}
+use Rattle.sharing.specs.declared.groups.PerGroup.{PerGroup}
 use Rattle.settling.specs.declared.outcome.Outcome.{Outcome}
 use Rattle.settling.specs.AddUp.{CellsAddUp}
 use Rattle.settling.specs.Outcomes.{outcome_of}
@@ -15,7 +15,7 @@ use Rattle.states.specs.States.{wants_in, shares_in_force}
 abbrev pub more_power : Power → Power → Power
 more_power p q = record { wanted = p.wanted + q.wanted; granted = p.granted + q.granted }
 
-abbrev pub more_powers : GroupPowers → GroupPowers → GroupPowers
+abbrev pub more_powers : PerGroup Power → PerGroup Power → PerGroup Power
 more_powers p q = record { master = more_power p.master q.master; secondary = more_power p.secondary q.secondary }
 
 -- the cells once the commands for the subframe have acted

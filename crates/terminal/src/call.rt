@@ -1,6 +1,5 @@
 // Any call, and any answer, as values.
 use cells::{RawCommand, RawSettings, RawWant};
-use refusals::Refusal;
 use settling::GroupPowers;
 use states::RawShares;
 
@@ -42,10 +41,9 @@ pub enum Call {
     },
 }
 
-/// What a call answers. A ticket is answered by its number.
+/// What a call that is not refused answers. A ticket is answered by its number.
 #[derive(Clone, Copy)]
 pub enum Answer {
-    Refused(Refusal),
     Accepted,
     Opened(u32),
     Settled(u32),

@@ -8,15 +8,14 @@ ghost use Rattle.terminal.specs.Tickets.{open_ticket, settled_or_back, why_back}
 ghost use Rattle.terminal.specs.Settled.{settled_state, rule_settled, SubframeAddsUp};
 ghost use Rattle.terminal.specs.Changes.{cell_set, shares_given, loss_given, command_given, subframe_opened, want_given, subframe_ended};
 
-use crate::changes::{add_want, end_subframe, open_subframe, put_cell, put_shares};
-use crate::settled::settle_open;
+use crate::changes::put_want;
 use crate::terminal::Terminal;
-use crate::tickets::{OpenTicket, SettledTicket, Unsettled};
+use crate::tickets::{OpenTicket, SettledTicket, Ticket, Unsettled};
 use cells::{Cell, RawCommand, RawSettings, RawWant};
 use refusals::Refusal;
 use settling::GroupPowers;
 use sharing::HoldingRule;
-use states::{RawShares, State};
+use states::{RawShares, State, Subframe};
 
 impl<R: HoldingRule> Terminal<R> {
     /// A new terminal: a total of 23 dBm, half of it guaranteed to each group, no cell set.
@@ -34,8 +33,8 @@ impl<R: HoldingRule> Terminal<R> {
     pub fn set(&mut self, cell: u32, settings: RawSettings) -> Result<(), Refusal>
         ensures { RefusedOrDone (refuses_set self.old.state cell settings) tt (cell_set self.old.state cell settings) self.old.state self.new.state self.old.rule self.new.rule result }
     {
-        let (place, settings) = self.state.admit_set(cell, settings)?;
-        put_cell(&mut self.state, place, Cell::set(settings));
+        let (cell, settings) = self.state.admit_set(cell, settings)?;
+        self.put_cell(cell, Cell::set(settings));
         Ok(())
     }
 
@@ -44,7 +43,7 @@ impl<R: HoldingRule> Terminal<R> {
         ensures { RefusedOrDone (refuses_shares self.old.state shares) tt (shares_given self.old.state shares) self.old.state self.new.state self.old.rule self.new.rule result }
     {
         let shares = self.state.admit_shares(shares)?;
-        put_shares(&mut self.state, shares);
+        self.put_shares(shares);
         Ok(())
     }
 
@@ -52,10 +51,8 @@ impl<R: HoldingRule> Terminal<R> {
     pub fn loss(&mut self, cell: u32, loss: u32) -> Result<(), Refusal>
         ensures { RefusedOrDone (refuses_loss self.old.state cell loss) tt (loss_given self.old.state cell loss) self.old.state self.new.state self.old.rule self.new.rule result }
     {
-        let (place, loss) = self.state.admit_loss(cell, loss)?;
-        let mut lossy = self.state.cells[place];
-        lossy.set_loss(loss);
-        put_cell(&mut self.state, place, lossy);
+        let (cell, loss) = self.state.admit_loss(cell, loss)?;
+        self.put_loss(cell, loss);
         Ok(())
     }
 
@@ -63,8 +60,8 @@ impl<R: HoldingRule> Terminal<R> {
     pub fn command(&mut self, cell: u32, command: RawCommand) -> Result<(), Refusal>
         ensures { RefusedOrDone (refuses_command self.old.state cell command) tt (command_given self.old.state cell command) self.old.state self.new.state self.old.rule self.new.rule result }
     {
-        let (place, waiting) = self.state.admit_command(cell, command)?;
-        put_cell(&mut self.state, place, waiting);
+        let (cell, waiting) = self.state.admit_command(cell, command)?;
+        self.put_cell(cell, waiting);
         Ok(())
     }
 
@@ -73,16 +70,18 @@ impl<R: HoldingRule> Terminal<R> {
         ensures { RefusedOrDone (refuses_open self.old.state) (open_ticket self.old.state.settled) (subframe_opened self.old.state) self.old.state self.new.state self.old.rule self.new.rule result }
     {
         self.state.admit_open()?;
-        open_subframe(&mut self.state);
-        Ok(OpenTicket::new(self.state.settled))
+        self.open_subframe();
+        Ok(Ticket::new(self.state.settled))
     }
 
     /// WANT: what a cell wants of the open subframe.
     pub fn want(&mut self, ticket: &OpenTicket, cell: u32, want: RawWant) -> Result<(), Refusal>
         ensures { RefusedOrDone (refuses_want self.old.state ticket.now.subframe cell want) tt (want_given self.old.state cell want) self.old.state self.new.state self.old.rule self.new.rule result }
     {
-        let (place, want) = self.state.admit_want(ticket.subframe, cell, want)?;
-        add_want(&mut self.state, place, want);
+        let (cell, want) = self.state.admit_want(ticket.subframe, cell, want)?;
+        let mut wants = self.state.wants();
+        put_want(&mut wants, cell, want);
+        self.state.subframe = Subframe::Open(wants);
         Ok(())
     }
 
@@ -90,10 +89,8 @@ impl<R: HoldingRule> Terminal<R> {
     pub fn done(&mut self, ticket: SettledTicket) -> Result<(), Refusal>
         ensures { RefusedOrDone (refuses_settled_ticket self.old.state ticket.subframe) tt (subframe_ended self.old.state) self.old.state self.new.state self.old.rule self.new.rule result }
     {
-        let number = ticket.subframe;
-        ticket.spend();
-        self.state.admit_settled_ticket(number)?;
-        end_subframe(&mut self.state);
+        ticket.give_back(&self.state)?;
+        self.end_subframe();
         Ok(())
     }
 
@@ -101,10 +98,8 @@ impl<R: HoldingRule> Terminal<R> {
     pub fn drop_subframe(&mut self, ticket: OpenTicket) -> Result<(), Refusal>
         ensures { RefusedOrDone (refuses_open_ticket self.old.state ticket.subframe) tt (subframe_ended self.old.state) self.old.state self.new.state self.old.rule self.new.rule result }
     {
-        let number = ticket.subframe;
-        ticket.spend();
-        self.state.admit_open_ticket(number)?;
-        end_subframe(&mut self.state);
+        ticket.give_back(&self.state)?;
+        self.end_subframe();
         Ok(())
     }
 
@@ -127,12 +122,10 @@ impl<R: HoldingRule> Terminal<R> {
         ensures refused_changes_nothing { (u : Unsettled) → result ≡ Err u → (self.new.state ≡ self.old.state) × (self.new.rule ≡ self.old.rule) }
         ensures cells_add_up_to_groups { OnOk result (SubframeAddsUp self.new.state.subframe) }
     {
-        let number = ticket.subframe;
-        if let Err(refusal) = self.state.admit_open_ticket(number) {
+        if let Err(refusal) = self.state.admit_open_ticket(ticket.subframe) {
             return Err(Unsettled { ticket, refusal });
         }
-        ticket.spend();
-        settle_open(&self.rule, &mut self.state);
-        Ok(SettledTicket::new(number))
+        self.state = self.settled();
+        Ok(ticket.settled())
     }
 }

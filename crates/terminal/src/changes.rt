@@ -1,74 +1,73 @@
-// What accepted calls make of the state.
+// What accepted calls change of a terminal. Each change keeps what every terminal keeps to.
 ghost use Rattle.std.specs.Prelude.{◌≡◌, ◌<◌};
-ghost use Rattle.states.specs.declared.state.Subframe.TheVariants.{Open};
-ghost use Rattle.states.specs.Wanted.{put_want, with_want};
-ghost use Rattle.states.specs.States.{wants_in, with_cell, with_shares, with_subframe};
-ghost use Rattle.terminal.specs.Changes.{subframe_opened, subframe_ended};
+ghost use Rattle.refusals.specs.First.{NoneHolds};
+ghost use Rattle.cells.specs.Ranges.{loss_conditions};
+ghost use Rattle.cells.specs.Cells.{CellInRange};
+ghost use Rattle.states.specs.Totals.{SharesKept};
+ghost use Rattle.states.specs.Wanted.{put_want};
+ghost use Rattle.states.specs.States.{cell_at, with_cell, with_shares};
+ghost use Rattle.terminal.specs.Changes.{loss_given, subframe_opened, subframe_ended};
 
+use crate::terminal::Terminal;
 use cells::{Cell, CellWants, Want};
-use states::{PowerShares, State, Subframe};
+use states::{CellNumber, PowerShares, Subframe};
 
-const NOTHING_WANTED: [CellWants; 8] = [CellWants {
-    control: None,
-    data: None,
-    sounding: None,
-}; 8];
-
-/// SET, LOSS and COMMAND: a cell in the place of another.
-pub(crate) fn put_cell(state: &mut State, place: usize, cell: Cell)
-    requires { place < 8 }
-    ensures { state.new ≡ with_cell state.old place cell }
+/// Adds a want of a cell. Each kind has a place of its own.
+pub(crate) fn put_want(wants: &mut [CellWants; 8], cell: CellNumber, want: Want)
+    ensures { wants.new ≡ put_want wants.old cell want }
 {
-    state.cells[place] = cell;
-}
-
-/// SHARES.
-pub(crate) fn put_shares(state: &mut State, shares: PowerShares)
-    ensures { state.new ≡ with_shares state.old shares }
-{
-    state.shares = shares;
-}
-
-/// OPEN: a subframe with no wants yet.
-pub(crate) fn open_subframe(state: &mut State)
-    ensures { state.new ≡ subframe_opened state.old }
-{
-    state.subframe = Subframe::Open(NOTHING_WANTED);
-}
-
-/// The wants of a cell with one more. Each kind has a place of its own.
-fn with_want(wants: CellWants, want: Want) -> CellWants
-    ensures { result ≡ with_want want wants }
-{
+    let of_cell = &mut wants[cell.place()];
     match want {
-        Want::Control(control) => CellWants {
-            control: Some(control),
-            ..wants
-        },
-        Want::Data(data) => CellWants {
-            data: Some(data),
-            ..wants
-        },
-        Want::Sounding(sounding) => CellWants {
-            sounding: Some(sounding),
-            ..wants
-        },
+        Want::Control(control) => of_cell.control = Some(control),
+        Want::Data(data) => of_cell.data = Some(data),
+        Want::Sounding(sounding) => of_cell.sounding = Some(sounding),
     }
 }
 
-/// WANT.
-pub(crate) fn add_want(state: &mut State, place: usize, want: Want)
-    requires { place < 8 }
-    ensures { state.new ≡ with_subframe state.old (Open (put_want (wants_in state.old.subframe) place want)) }
-{
-    let mut wants = state.wants();
-    wants[place] = with_want(wants[place], want);
-    state.subframe = Subframe::Open(wants);
-}
+impl<R> Terminal<R> {
+    /// SET, LOSS and COMMAND: a cell in the place of another.
+    pub(crate) fn put_cell(&mut self, number: CellNumber, cell: Cell)
+        requires { CellInRange (cell_at self.old.state number) → CellInRange cell }
+        ensures state { self.new.state ≡ with_cell self.old.state number cell }
+        ensures rule { self.new.rule ≡ self.old.rule }
+    {
+        self.state.cells[number.place()] = cell;
+    }
 
-/// DONE and DROP.
-pub(crate) fn end_subframe(state: &mut State)
-    ensures { state.new ≡ subframe_ended state.old }
-{
-    state.subframe = Subframe::Idle;
+    /// LOSS: a path loss of a cell.
+    pub(crate) fn put_loss(&mut self, number: CellNumber, loss: u8)
+        requires { NoneHolds (loss_conditions loss) }
+        ensures state { self.new.state ≡ loss_given self.old.state number loss }
+        ensures rule { self.new.rule ≡ self.old.rule }
+    {
+        let mut cell = self.state.cell(number);
+        cell.set_loss(loss);
+        self.put_cell(number, cell);
+    }
+
+    /// SHARES.
+    pub(crate) fn put_shares(&mut self, shares: PowerShares)
+        requires { SharesKept shares }
+        ensures state { self.new.state ≡ with_shares self.old.state shares }
+        ensures rule { self.new.rule ≡ self.old.rule }
+    {
+        self.state.shares = shares;
+    }
+
+    /// OPEN: a subframe with no wants yet.
+    pub(crate) fn open_subframe(&mut self)
+        requires { self.old.state.settled < 864000000 }
+        ensures state { self.new.state ≡ subframe_opened self.old.state }
+        ensures rule { self.new.rule ≡ self.old.rule }
+    {
+        self.state.subframe = Subframe::Open([CellWants::NONE; 8]);
+    }
+
+    /// DONE and DROP: no subframe any more.
+    pub(crate) fn end_subframe(&mut self)
+        ensures state { self.new.state ≡ subframe_ended self.old.state }
+        ensures rule { self.new.rule ≡ self.old.rule }
+    {
+        self.state.subframe = Subframe::Idle;
+    }
 }

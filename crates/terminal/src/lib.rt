@@ -12,4 +12,6 @@ mod tickets;
 
 pub use call::{Answer, Call};
 pub use terminal::Terminal;
-pub use tickets::{OpenTicket, SettledTicket, Unsettled};
+pub use tickets::{
+    Open, OpenTicket, Settled, SettledTicket, Spent, Ticket, TicketState, Unsettled,
+};

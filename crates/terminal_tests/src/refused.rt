@@ -6,12 +6,6 @@ use sharing::Aligned;
 use states::{State, Subframe};
 use terminal::Terminal;
 
-const NOTHING_WANTED: [CellWants; 8] = [CellWants {
-    control: None,
-    data: None,
-    sounding: None,
-}; 8];
-
 #[test]
 fn each_refusal(rt: HostRuntime) {
     let mut terminal = Terminal::new(Aligned);
@@ -109,7 +103,7 @@ fn last_subframe(rt: HostRuntime) {
         Err(Refusal::NoMoreSubframes)
     );
     assert_eq!(rt;
-        opened(864_000_000, Subframe::Open(NOTHING_WANTED)),
+        opened(864_000_000, Subframe::Open([CellWants::NONE; 8])),
         Err(Refusal::Busy)
     );
 }

@@ -1,5 +1,6 @@
 // Calls and answers in a short form, for tables.
 use cells::{RawCommand, RawSettings, RawWant};
+use refusals::Refusal;
 use sharing::Aligned;
 use states::RawShares;
 use std::process::Abort;
@@ -20,7 +21,7 @@ pub enum Step {
     Drop(u32),
 }
 
-/// An answer: a refusal by its number, a ticket by its number, what the master group wanted and was granted and what the secondary was.
+/// An answer, with numbers only, as another program gives them: a refusal by its number, a ticket by its number, what the master group wanted and was granted and what the secondary was.
 #[derive(Clone, Copy, PartialEq, Eq, Debug)]
 pub enum Said {
     Refused(u8),
@@ -29,9 +30,9 @@ pub enum Said {
     Groups(u64, u64, u64, u64),
 }
 
-impl Step {
-    fn call(self) -> Call {
-        match self {
+impl From<Step> for Call {
+    fn from(step: Step) -> Call {
+        match step {
             Step::Set(cell, loop_kind, maximum, data_base, path_factor, control_base) => {
                 Call::Set {
                     cell,
@@ -76,26 +77,34 @@ impl Step {
     }
 }
 
-fn as_said(answer: Answer) -> Said {
-    match answer {
-        Answer::Refused(refusal) => Said::Refused(refusal.number()),
-        Answer::Accepted => Said::Done,
-        Answer::Opened(number) => Said::Ticket(number),
-        Answer::Settled(number) => Said::Ticket(number),
-        Answer::Groups(groups) => Said::Groups(
-            groups.master.wanted,
-            groups.master.granted,
-            groups.secondary.wanted,
-            groups.secondary.granted,
-        ),
+impl From<Answer> for Said {
+    fn from(answer: Answer) -> Said {
+        match answer {
+            Answer::Accepted => Said::Done,
+            Answer::Opened(number) => Said::Ticket(number),
+            Answer::Settled(number) => Said::Ticket(number),
+            Answer::Groups(groups) => Said::Groups(
+                groups.master.wanted,
+                groups.master.granted,
+                groups.secondary.wanted,
+                groups.secondary.granted,
+            ),
+        }
+    }
+}
+
+impl From<Refusal> for Said {
+    fn from(refusal: Refusal) -> Said {
+        Said::Refused(refusal.number())
     }
 }
 
 /// Makes the calls in order and compares each answer.
+// Terminal and `rt` stay two parameters: one is what is tested, the other the test's own.
 pub fn play(rt: &impl Abort, terminal: &mut Terminal<Aligned>, rows: &[(Step, Said)]) {
-    for row in rows {
-        let (step, expected) = *row;
-        assert_eq!(rt; as_said(terminal.perform(step.call())), expected);
+    for &(step, expected) in rows {
+        let answer = terminal.perform(Call::from(step));
+        assert_eq!(rt; answer.map_or_else(Said::from, Said::from), expected);
     }
 }
 

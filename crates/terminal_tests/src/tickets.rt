@@ -5,24 +5,15 @@ use sharing::Aligned;
 use std::test::Fail;
 use terminal::{OpenTicket, Terminal, Unsettled};
 
-fn number(answer: Result<(), Refusal>) -> u8 {
-    match answer {
-        Ok(()) => 0,
-        Err(refusal) => refusal.number(),
-    }
-}
-
 /// Settles a subframe of one terminal with the ticket. Where the ticket is handed back, it drops a subframe of the other.
 fn settled_or_dropped(
     here: &mut Terminal<Aligned>,
     there: &mut Terminal<Aligned>,
     ticket: OpenTicket,
-) -> (u8, u8) {
+) -> (Option<Refusal>, Result<(), Refusal>) {
     match here.settle(ticket) {
-        Ok(settled) => (0, number(here.done(settled))),
-        Err(Unsettled { ticket, refusal }) => {
-            (refusal.number(), number(there.drop_subframe(ticket)))
-        }
+        Ok(settled) => (None, here.done(settled)),
+        Err(Unsettled { ticket, refusal }) => (Some(refusal), there.drop_subframe(ticket)),
     }
 }
 
@@ -36,8 +27,8 @@ fn refused_settle_hands_its_ticket_back(rt: HostRuntime) -> Result<(), Fail> {
     let bears = ticket.subframe();
     let (refusal, dropped) = settled_or_dropped(&mut here, &mut there, ticket);
     assert_eq!(rt; bears, 3);
-    assert_eq!(rt; refusal, 8);
-    assert_eq!(rt; dropped, 0);
+    assert_eq!(rt; refusal.map(Refusal::number), Some(8));
+    assert_eq!(rt; dropped, Ok(()));
     play(
         &rt,
         &mut here,
@@ -55,8 +46,8 @@ fn dropped_subframe_leaves_its_number(rt: HostRuntime) -> Result<(), Fail> {
     pass(&rt, &mut terminal, 0, 2);
     let ticket = terminal.open()?;
     let (refusal, done) = settled_or_dropped(&mut terminal, &mut Terminal::new(Aligned), ticket);
-    assert_eq!(rt; refusal, 0);
-    assert_eq!(rt; done, 0);
+    assert_eq!(rt; refusal, None);
+    assert_eq!(rt; done, Ok(()));
     play(
         &rt,
         &mut terminal,

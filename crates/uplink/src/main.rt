@@ -9,6 +9,7 @@ use std::io::Read;
 
 const MOST: u64 = 65_536;
 
+// `layout` reads its recording in the same two lines: the two programs share no crate that reads.
 fn main(rt: HostRuntime) -> io::Result<()> {
     let mut recording = Vec::new(rt.alloc());
     rt.stdin().take(MOST).read_to_end(&mut recording)?;

@@ -1,11 +1,14 @@
-use Rattle.std.proofs.Common.{◌≡◌, true, ◌++◌, map, take, drop}
-use Rattle.split.specs.Shares.{with_leftovers, with_grants, all_within}
+use Rattle.std.proofs.Common.{◌≡◌, ◌≤◌, ◌++◌, map, take, drop}
+use Rattle.std.specs.List.{All}
+use Rattle.split.specs.Shares.{with_leftovers, with_grants}
 use Rattle.split.proofs.grant_shares.Given as goal
 
 abbrev pub invariant-loop-claim : goal.invariant-loop-claim
 invariant-loop-claim g l =
     let asks = g.C.Claim.asks in
-    let goal = g.C.Claim.given in
-    (all_within (map asks (drop l.claim-index l.claims)) ≡ true)
-    × (take l.claim-index l.claims ++ with_grants goal (drop l.claim-index l.claims) (with_leftovers l.room l.total l.left (map asks (drop l.claim-index l.claims)))
-    ≡ with_grants goal l.initial.claims (with_leftovers l.room l.total l.leftover (map asks l.initial.claims)))
+    let given = g.C.Claim.given in
+    record {
+      small : All (λ c. asks c ≤ 1995262314) l.claims;
+      granted : take l.claim-index l.claims ++ with_grants given (drop l.claim-index l.claims) (with_leftovers l.shortage.room l.shortage.total l.left (map asks (drop l.claim-index l.claims)))
+          ≡ with_grants given l.initial.claims (with_leftovers l.shortage.room l.shortage.total l.leftover (map asks l.initial.claims));
+    }

@@ -1,76 +1,41 @@
-use Rattle.std.proofs.Common.{Some, Ok, Err, sym, refl, ap, ◌∙◌, subst, arith}
-use Rattle.std.proofs.lemmas.Bool.{cond-true, cond-false, both_ways, false≢true}
-use Rattle.faults.specs.Faults.{no_open_subframe}
-use Rattle.recording.specs.Contents.{content}
-use Rattle.recording.specs.Records.{whole, refused}
-use Rattle.recording.specs.Reading.{NextExactly}
-use Rattle.recording.proofs.ReadingLaws.{rest_fits, now_behind, at_end, ending_codes, at_fault, in_place, misplaced, read_here, answer_here, offset_here, exactly_here, answer_end, offset_end}
+use Rattle.std.proofs.Common.{◌≡◌, length, drop, Some, sym, ap, ◌∙◌, subst}
+use Rattle.recording.specs.declared.reader.Reader.{Reader}
+use Rattle.recording.specs.Records.{RecordExactly}
+use Rattle.recording.specs.Reading.{behind, Forward}
+use Rattle.recording.specs.Whole.{record_read}
+use Rattle.recording.proofs.ReadingLaws.{read_here, exactly_here, stands_behind, offset_here, next_exactly, forward}
 use Rattle.recording.proofs.reader.Reader.next.Goals as goal
+use Rattle.recording.proofs.reader.Reader.next.Goals.{in-Ok, in_default}
 
-pub returns-then-self : goal.returns-then-self
-returns-then-self c =
+pub overflow_sub-offset : goal.overflow_sub-offset
+overflow_sub-offset c =
     let bs = c.args.self.now.recording.now in
     let at = c.args.self.now.offset in
-    let past = c.if-self.true in
-    record { same = refl; answer = answer_end bs at _ past; stands_after = offset_end bs at past; forward = (refl, past); next_exactly = at_end bs at _ past }
+    (stands_behind bs at c.read_record-read.result c.in-Ok.read c.in-Ok.is (exactly_here bs at _ c.read_record-read.ensures.record_exactly)).1
 
-pub returns-in-Err : goal.returns-in-Err
-returns-in-Err c =
+-- the reader stands behind what was read
+there : (c : goal.After-admitted) → RecordExactly c.args.self.now.offset (drop c.args.self.now.offset c.args.self.now.recording.now) (record_read c.read_record-read.result)
+there c = exactly_here c.args.self.now.recording.now c.args.self.now.offset _ c.read_record-read.ensures.record_exactly
+
+moved : (c : goal.After-admitted) → c.match-read.self.offset ≡ behind c.args.self.now.offset (record_read c.read_record-read.result)
+moved c =
+    let at = c.args.self.now.offset in
+    elim c.match-read.branch [
+      | in-Ok w ↦ ap (λ (s : Reader). s.offset) w.self-is ∙ (stands_behind c.args.self.now.recording.now at c.read_record-read.result w.in-Ok.read w.in-Ok.is (there c)).0
+      | in_default w ↦ ap (λ (s : Reader). s.offset) w.self-is ∙ ap (λ r. behind at (record_read r)) (sym w.in_default.is)
+    ]
+
+pub returns-clause-stands_after : goal.returns-clause-stands_after
+returns-clause-stands_after c =
     let bs = c.args.self.now.recording.now in
     let at = c.args.self.now.offset in
-    let fault = c.in-Err.fault in
-    let here = read_here bs at (refused fault) c.in-Err.ensures.answer in
-    let f = exactly_here bs at (refused fault) c.in-Err.ensures.record_exactly in
-    let codes = ending_codes at fault (f.no_other_fault fault refl) in
-    record {
-      same = refl;
-      answer = answer_here bs at _ c.if-self.false (refused fault) here;
-      stands_after = offset_here bs at c.if-self.false (refused fault) here;
-      forward = (λ _. refl, λ goes_on. absurd (both_ways _ goes_on codes.3), omega (arith, c.if-self.false));
-      next_exactly = at_fault bs at _ c.if-self.false fault f;
-    }
+    moved c ∙ offset_here bs at c.if-place-recording.false _ (read_here bs at _ c.read_record-read.ensures.answer)
 
-pub overflow_sub-self : goal.overflow_sub-self
-overflow_sub-self c =
+pub returns-clause-forward : goal.returns-clause-forward
+returns-clause-forward c =
     let bs = c.args.self.now.recording.now in
     let at = c.args.self.now.offset in
-    let f = exactly_here bs at _ c.in-Ok.ensures.record_exactly in
-    rest_fits bs at _ _ ((f.read_where_it_stands _ _).only refl).1
+    subst (λ after. Forward (Some c.admitted.result) at after (length bs)) (sym (moved c)) (forward bs at c.args.subframe_open c.if-place-recording.false c.admitted.result _ (there c) c.admitted.ensures)
 
-pub returns-then-out_of_place : goal.returns-then-out_of_place
-returns-then-out_of_place c =
-    let bs = c.args.self.now.recording.now in
-    let at = c.args.self.now.offset in
-    let is_open = c.args.subframe_open in
-    let said = content c.in-Ok.read.record in
-    let rest = c.in-Ok.read.rest.now in
-    let here = read_here bs at (whole said rest) c.in-Ok.ensures.answer in
-    let f = exactly_here bs at (whole said rest) c.in-Ok.ensures.record_exactly in
-    let b = now_behind bs at said rest f in
-    let out = sym c.if-out_of_place.ensures in
-    record {
-      same = refl;
-      answer = ap Some (sym (cond-true _ _ _ out)) ∙ answer_here bs at is_open c.if-self.false (whole said rest) here;
-      stands_after = b.is ∙ offset_here bs at c.if-self.false (whole said rest) here;
-      forward = (λ ends. absurd (false≢true ends), λ _. b.forth, b.within);
-      next_exactly = subst (NextExactly bs at is_open (Some (Err (no_open_subframe at)))) (sym b.is) (misplaced bs at is_open c.if-self.false said rest f out);
-    }
-
-pub returns-else-out_of_place : goal.returns-else-out_of_place
-returns-else-out_of_place c =
-    let bs = c.args.self.now.recording.now in
-    let at = c.args.self.now.offset in
-    let is_open = c.args.subframe_open in
-    let said = content c.in-Ok.read.record in
-    let rest = c.in-Ok.read.rest.now in
-    let here = read_here bs at (whole said rest) c.in-Ok.ensures.answer in
-    let f = exactly_here bs at (whole said rest) c.in-Ok.ensures.record_exactly in
-    let b = now_behind bs at said rest f in
-    let fine = sym c.if-out_of_place.ensures in
-    record {
-      same = refl;
-      answer = ap Some (sym (cond-false _ _ _ fine)) ∙ answer_here bs at is_open c.if-self.false (whole said rest) here;
-      stands_after = b.is ∙ offset_here bs at c.if-self.false (whole said rest) here;
-      forward = (b.forth, b.within);
-      next_exactly = subst (NextExactly bs at is_open (Some (Ok said))) (sym b.is) (in_place bs at is_open c.if-self.false said rest f fine);
-    }
+pub returns-clause-next_exactly : goal.returns-clause-next_exactly
+returns-clause-next_exactly c = rw (moved c, c.admitted.ensures) (next_exactly c.args.self.now.recording.now c.args.self.now.offset c.args.subframe_open c.if-place-recording.false _ (there c))

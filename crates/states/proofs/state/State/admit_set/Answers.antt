@@ -1,17 +1,15 @@
-use Rattle.std.proofs.Common.{◌≡◌, false, ltb, ◌∙◌, rules}
-use Rattle.std.proofs.lemmas.Result.{err_from_is_err_and, IfOk-from_err}
-use Rattle.refusals.specs.First.{first_that_holds}
-use Rattle.cells.specs.Ranges.{settings_conditions}
-use Rattle.states.specs.States.{is_busy}
-use Rattle.states.proofs.Chains.{refused_same}
+use Rattle.std.proofs.Common.{ℕ, [], ◌++◌}
+use Rattle.cells.specs.declared.settings.Settings.{Settings}
+use Rattle.cells.specs.Ranges.{settings_conditions, settings_of}
+use Rattle.states.specs.Numbers.{cell_conditions}
+use Rattle.states.specs.Admission.{refuses_busy}
+use Rattle.states.proofs.Chains.{passed, stopped}
 use Rattle.states.proofs.state.State.admit_set.Goals as goal
 
-pub returns-in_err-settings : goal.returns-in_err-settings
-returns-in_err-settings c =
-    let p = err_from_is_err_and c.from_residual.result c.from_residual.ensures.1 in
-    let idle : is_busy c.args.self.now.subframe ≡ false = search rules in
-    let cell : ltb 7 c.args.cell ≡ false = search rules in
-    record {
-      answers = p.1 ∙ rw p.2 (rw (idle, cell) (refused_same (first_that_holds (settings_conditions c.args.settings)) _ _ _ c.in_err-settings.ensures.answers));
-      in_range = IfOk-from_err c.from_residual.result _ c.from_residual.ensures.0;
-    }
+pub returns-in_err-settings-clause-answers : goal.returns-in_err-settings-clause-answers
+returns-in_err-settings-clause-answers c =
+    let cs = settings_conditions c.args.settings in
+    let y : ℕ × Settings = (c.args.cell, settings_of c.args.settings) in
+    passed (refuses_busy c.args.self.now) (cell_conditions c.args.cell ++ cs) _ _ _ y c.in_ok-check_idle.ensures
+    (passed (cell_conditions c.args.cell) cs _ _ _ y c.in_ok-cell.ensures
+    (stopped cs [] _ _ _ y c.in_err-settings.ensures.answers c.from_residual-in_err-settings.ensures.1))

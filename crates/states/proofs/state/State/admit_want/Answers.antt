@@ -1,21 +1,17 @@
-use Rattle.std.proofs.Common.{◌≡◌, false, not, ltb, ◌∙◌, rules}
-use Rattle.std.proofs.lemmas.Result.{err_from_is_err_and, IfOk-from_err}
-use Rattle.refusals.specs.First.{first_that_holds}
-use Rattle.cells.specs.WantRanges.{want_conditions, want_of}
-use Rattle.states.specs.States.{open_as}
-use Rattle.states.specs.Admission.{refuses_want_of}
-use Rattle.states.proofs.Chains.{asked_in_turn, refused_before}
+use Rattle.states.proofs.Wanting.{no_subframe, want_refused, want_not_admitted, want_admitted}
 use Rattle.states.proofs.state.State.admit_want.Goals as goal
 
-pub returns-in_err-want : goal.returns-in_err-want
-returns-in_err-want c =
-    let p = err_from_is_err_and c.from_residual.result c.from_residual.ensures.1 in
-    let opened : not (open_as c.args.self.now c.args.number) ≡ false = search rules in
-    let cell : ltb 7 c.args.cell ≡ false = search rules in
-    let cs = want_conditions c.args.want in
-    let more = refuses_want_of c.args.self.now c.args.cell (want_of c.args.want) in
-    record {
-      answers = p.1 ∙ rw p.2 (rw (opened, cell, asked_in_turn cs more) (refused_before (first_that_holds cs) _ _ _ _ c.in_err-want.ensures.answers));
-      in_range = IfOk-from_err c.from_residual.result _ c.from_residual.ensures.0;
-      new = IfOk-from_err c.from_residual.result _ c.from_residual.ensures.0;
-    }
+pub returns-in_err-admit_open_ticket-clause-answers : goal.returns-in_err-admit_open_ticket-clause-answers
+returns-in_err-admit_open_ticket-clause-answers c = no_subframe c.args.self.now c.args.number c.args.cell c.args.want _ _ c.in_err-admit_open_ticket.ensures c.from_residual.ensures.1
+
+pub returns-in_err-want-clause-answers : goal.returns-in_err-want-clause-answers
+returns-in_err-want-clause-answers c =
+    want_refused c.args.self.now c.args.number c.args.cell c.args.want _ c.in_ok-admit_open_ticket.ensures c.in_ok-cell.ensures _ _ _ c.in_err-want.ensures.answers c.from_residual-in_err-want.ensures.1
+
+pub returns-in_err-admit_want_of-clause-answers : goal.returns-in_err-admit_want_of-clause-answers
+returns-in_err-admit_want_of-clause-answers c =
+    want_not_admitted c.args.self.now c.args.number c.args.cell c.args.want _ c.in_ok-admit_open_ticket.ensures c.in_ok-cell.ensures _ c.in_ok-want.ensures.answers _ _ c.in_err-admit_want_of.ensures c.from_residual-in_err-admit_want_of.ensures.1
+
+pub returns-clause-answers : goal.returns-clause-answers
+returns-clause-answers c =
+    want_admitted c.args.self.now c.args.number c.args.cell c.args.want _ c.in_ok-admit_open_ticket.ensures c.in_ok-cell.ensures _ c.in_ok-want.ensures.answers c.in_ok-admit_want_of.ensures

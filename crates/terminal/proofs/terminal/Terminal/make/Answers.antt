@@ -1,27 +1,23 @@
-use Rattle.std.proofs.Common.{sym, ap, ◌∙◌}
-use Rattle.states.specs.Admission.{refuses_set, refuses_want}
-use Rattle.terminal.specs.Calls.{answer_to, state_after, rule_after}
-use Rattle.terminal.proofs.Performing.{plain_answers, plain_rule}
+use Rattle.std.proofs.Common.{refl, sym, ap, ◌∙◌}
+use Rattle.refusals.proofs.Answered.{accepts, admitted}
+use Rattle.refusals.specs.First.{first_that_holds}
+use Rattle.states.specs.Admission.{refuses_want}
+use Rattle.terminal.specs.declared.call.Answer.TheVariants.{Accepted}
+use Rattle.terminal.specs.Calls.{answer_to, rule_after}
+use Rattle.terminal.proofs.Performing.{same_or_same}
 use Rattle.terminal.proofs.terminal.Terminal.make.Goals as goal
 
-pub returns-in-Set : goal.returns-in-Set
-returns-in-Set g c =
-    let t = c.args.self.now in
-    let cs = refuses_set t.state c.in-Set.cell c.in-Set.settings in
-    record {
-      answers = plain_answers cs _ t.state _ t.rule _ _ _ c.set.ensures c.told.ensures ∙ sym (ap (answer_to t.state) c.in-Set.is);
-      leaves = c.set.ensures.leaves ∙ sym (ap (state_after (g.R.HoldingRule.reserve t.rule) t.state) c.in-Set.is);
-      leaves_rule = plain_rule cs _ t.state _ t.rule _ _ _ c.set.ensures c.told.ensures ∙ sym (ap (rule_after t.state t.rule) c.in-Set.is);
-    }
-
-pub returns-in-Want : goal.returns-in-Want
-returns-in-Want g c =
+pub returns-in_ok-answer-in-Want-clause-answers : goal.returns-in_ok-answer-in-Want-clause-answers
+returns-in_ok-answer-in-Want-clause-answers g c =
     let t = c.args.self.now in
     let w = c.in-Want in
     let cs = refuses_want t.state w.ticket w.cell w.want in
-    let done = rw c.new-lent.ensures at c.want-answer.ensures in
-    record {
-      answers = plain_answers cs _ t.state _ t.rule _ _ _ done c.told-in-Want.ensures ∙ sym (ap (answer_to t.state) w.is);
-      leaves = done.leaves ∙ sym (ap (state_after (g.R.HoldingRule.reserve t.rule) t.state) w.is);
-      leaves_rule = plain_rule cs _ t.state _ t.rule _ _ _ done c.told-in-Want.ensures ∙ sym (ap (rule_after t.state t.rule) w.is);
-    }
+    let told = rw c.new-ticket.ensures at c.in_ok-answer-in-Want.ensures.answers in
+    accepts (first_that_holds cs) Accepted Accepted (admitted (first_that_holds cs) _ tt told).0 refl ∙ sym (ap (answer_to t.state) w.is)
+
+pub returns-in_ok-answer-in-Want-clause-leaves_rule : goal.returns-in_ok-answer-in-Want-clause-leaves_rule
+returns-in_ok-answer-in-Want-clause-leaves_rule g c =
+    let t = c.args.self.now in
+    let w = c.in-Want in
+    let same = same_or_same (first_that_holds (refuses_want t.state w.ticket w.cell w.want)) t.rule in
+    c.want-answer.ensures.same_rule ∙ (same ∙ sym (ap (rule_after t.state t.rule) w.is))

@@ -39,6 +39,8 @@ pub struct RawCommand {
     pub code: u32,
 }
 
+// Tables and no `match` of eight arms: each row is that of the standard's table.
+
 const ACCUMULATED_STEPS: [i16; 4] = [-1, 0, 1, 3];
 
 const ABSOLUTE_STEPS: [i16; 4] = [-4, -1, 1, 4];
@@ -96,6 +98,7 @@ fn row(code: TpcCommand) -> usize
     ensures value { result ≡ code_number code }
     ensures below { result < 4 }
 {
+    // A discriminant: no `From` gives it.
     code as usize
 }
 

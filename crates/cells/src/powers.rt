@@ -203,7 +203,7 @@ impl ControlValues {
 }
 
 /// The power of a data want under a cap.
-// Cap and want stay apart: the cap is the cell's, and of a subframe only for data beside control.
+// Cap and want stay two parameters: the want is a call's; the cap is the cell's maximum, for data less what control takes.
 pub fn data_want(values: DataValues, cap: u64, want: DataWant) -> u64
     ensures value { result ≡ data_power values «cap» (Some want) }
     ensures want_close_below_exact { «cap» ≤ 1995262314 → WantInRange (Data want) → CloseBelowExact (data_level values) want.blocks (raw_data values (Some want)) «cap» result }
@@ -232,9 +232,6 @@ impl Cell {
         ensures want_close_below_exact { DataCloseBelowExact self.now.settings wants.«data» self.now result }
         ensures within_maximum { WithinMaximum self.now result }
     {
-        match self.settings {
-            Some(settings) => powers_with(settings, self, wants),
-            None => Powers::NONE,
-        }
+        self.settings.map_or(Powers::NONE, |settings| powers_with(settings, self, wants))
     }
 }

@@ -21,6 +21,7 @@ fn place_of(subframe: u64) -> usize
     ensures value { result ≡ place_for subframe }
     ensures below { result < 5 }
 {
+    // Below 5.
     (subframe % 5) as usize
 }
 

@@ -23,6 +23,7 @@ impl From<Layer> for char {
     ghost from_gives = { λ layer letter. letter ≡ layer_letter layer };
 
     fn from(layer: Layer) -> char {
+        // A discriminant: no `From` gives it.
         layer as u8 as char
     }
 }
@@ -136,6 +137,7 @@ impl Fault for NumberFault {
     }
 
     fn number(self) -> u8 {
+        // A discriminant, as below.
         self.kind as u8
     }
 
@@ -169,7 +171,7 @@ pub enum RecordFault {
     Layout { place: usize, kind: LayoutFaultKind },
 }
 
-// For `?`: each error that is turned has its own.
+// By hand: `from_gives` says what `?` makes of the fault, which the clauses of callers name.
 impl From<NumberFault> for RecordFault {
     ghost from_gives = { λ e r. r ≡ Number e };
 

@@ -49,7 +49,7 @@ pub enum PlayerFault {
     Terminal(RefusedAt),
 }
 
-// Each of the two faults has its own `From`.
+// By hand, once for each fault: `from_gives` says what the clauses of callers name.
 impl From<RecordFault> for PlayerFault {
     ghost from_gives = { λ e r. r ≡ Record e };
 

@@ -7,5 +7,6 @@ mod line;
 mod text;
 
 pub use fault::{PlayerFault, RefusedAt};
+pub use faults::Fault;
 pub use line::Line;
 pub use text::{line_text, transcript};

@@ -26,6 +26,7 @@ impl From<RecordKind> for u8 {
     ghost from_gives = { λ kind letter. letter ≡ letter_of kind };
 
     fn from(kind: RecordKind) -> u8 {
+        // A discriminant: no `From` gives it.
         kind as u8
     }
 }

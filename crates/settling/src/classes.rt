@@ -19,10 +19,7 @@ pub struct CellDemand {
 pub(crate) fn power_in(class: Class, of: Option<Class>, power: u64) -> u64
     ensures { result ≡ if_class class of power }
 {
-    match of {
-        Some(own) if own == class => power,
-        _ => 0,
-    }
+    if of == Some(class) { power } else { 0 }
 }
 
 impl CellDemand {

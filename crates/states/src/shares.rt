@@ -31,7 +31,7 @@ fn conditions(raw: RawShares) -> [Option<Refusal>; 4]
 {
     let together = u64::from(raw.master) + u64::from(raw.secondary);
     [
-        Refusal::OutOfRange.when(raw.total < -400 || 330 < raw.total),
+        Refusal::OutOfRange.when(!(-400..=330).contains(&raw.total)),
         Refusal::OutOfRange.when(raw.master > 100),
         Refusal::OutOfRange.when(raw.secondary > 100),
         Refusal::PercentagesAbove100.when(together > 100),

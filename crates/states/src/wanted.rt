@@ -33,7 +33,7 @@ fn claims_in(class: Class, wants: &CellWants) -> u8
 fn claims_of(class: Class, wants: &[CellWants; 8], group: Group) -> u8
     ensures { result ≡ over_group (claims_in class) no_wants wants.now group }
 {
-    // The master group's four cells come first.
+    // By name: the master group's four come first, and a chain over a part of the array would hide which four.
     let [a, b, c, d, e, f, g, h] = wants.map(|cell| claims_in(class, &cell));
     match group {
         Group::Master => a + b + c + d,

@@ -24,6 +24,7 @@ fn more_power(sum: Power, more: Power) -> Power
     }
 }
 
+// Two lines for two groups, as is told at `PerGroup`.
 fn more_powers(sums: GroupPowers, more: GroupPowers) -> GroupPowers
     requires sums_within { SumsWithin 863999999 sums }
     requires more_within { SumsWithin 1 more }

@@ -64,8 +64,5 @@ done c =
     let t = c.loop-item.tally in
     subst (λ ending. RunsThrough bs (record { records = t.records; faults = t.faults; ending = ending })) (sym inv.not_ended) (at_its_end bs _ _ _ _ inv.so_far (rw inv.same at c.in_default.ensures.forward).1)
 
-pub returns-clause-runs_through : goal.returns-clause-runs_through
-returns-clause-runs_through c = done c
-
 pub returns-clause-only_run : goal.returns-clause-only_run
 returns-clause-only_run c = only_run c.args.recording.now _ (λ i. omega (arith, c.type_inv.recording i)) (done c)

@@ -19,9 +19,6 @@ module _ (s : State) (n k : ℕ) (r : RawWant) where
   abbrev last : List (Option Refusal)
   last = refuses_want_of s k (want_of r)
 
-  pub no_subframe : (e : Refusal) (a : Result (ℕ × Want) Refusal) → ◌≡◌ {A = Result Unit Refusal} (Err e) (refused_or (first_that_holds (refuses_open_ticket s n)) tt) → IsErrAnd a (λ d. d ≡ e) → answer a
-  no_subframe e a h out = stopped (refuses_open_ticket s n) (cell_conditions k ++ (want_conditions r ++ last)) e tt a (k, want_of r) h out
-
   module _ (cell : ℕ) (opened : ◌≡◌ {A = Result Unit Refusal} (Ok tt) (refused_or (first_that_holds (refuses_open_ticket s n)) tt)) (there : Ok cell ≡ refused_or (first_that_holds (cell_conditions k)) k) where
     of_the_want : (a : Result (ℕ × Want) Refusal) → a ≡ refused_or (first_that_holds (want_conditions r ++ last)) (k, want_of r) → answer a
     of_the_want a h =

@@ -1,8 +1,5 @@
-use Rattle.states.proofs.Wanting.{no_subframe, want_refused, want_not_admitted, want_admitted}
+use Rattle.states.proofs.Wanting.{want_refused, want_not_admitted, want_admitted}
 use Rattle.states.proofs.state.State.admit_want.Goals as goal
-
-pub returns-in_err-admit_open_ticket-clause-answers : goal.returns-in_err-admit_open_ticket-clause-answers
-returns-in_err-admit_open_ticket-clause-answers c = no_subframe c.args.self.now c.args.number c.args.cell c.args.want _ _ c.in_err-admit_open_ticket.ensures c.from_residual.ensures.1
 
 pub returns-in_err-want-clause-answers : goal.returns-in_err-want-clause-answers
 returns-in_err-want-clause-answers c =

@@ -2,7 +2,7 @@
 ghost use Rattle.std.specs.Prelude.{IfSome, ◌≡◌};
 ghost use Rattle.cells.specs.Cells.{CellInRange};
 ghost use Rattle.cells.specs.WantRanges.{WantsInRange};
-ghost use Rattle.cells.specs.Loops.{ignored, moved_loop, moved_data, moved_control, moved};
+ghost use Rattle.cells.specs.Loops.{ignored, with_step, moved_data, moved_control, moved};
 ghost use Rattle.cells.specs.LoopRule.{MovesByCommands};
 
 use crate::cell::Cell;
@@ -22,24 +22,21 @@ fn is_ignored(by: i16, raw: u64, most: u64) -> bool
     (by > 0 && raw >= most) || (by < 0 && raw <= LEAST)
 }
 
-/// A loop after the command that is due, judged by the power `raw` at its old value. A sum stops at the ends of 16 bits, which no loop in its limits comes near.
-fn moved_loop(kind: LoopKind, before: i16, command: Option<TpcCommand>, raw: u64, most: u64) -> i16
-    ensures { result ≡ moved_loop kind before command raw most }
+/// A loop with a step added, unless it is ignored. The sum stops at the ends of 16 bits, which no loop in its limits comes near.
+fn with_step(before: i16, by: i16, raw: u64, most: u64) -> i16
+    ensures { result ≡ with_step before by raw most }
 {
-    let Some(code) = command else {
-        return before;
-    };
-    let by = step(kind, code);
-    match kind {
-        LoopKind::Absolute => by,
-        LoopKind::Accumulating if is_ignored(by, raw, most) => before,
-        LoopKind::Accumulating => before.saturating_add(by),
+    if is_ignored(by, raw, most) {
+        before
+    } else {
+        before.saturating_add(by)
     }
 }
 
 impl Cell {
     /// The data loop after the command that is due.
-    // Two channels of one `moved_loop`: this and `moved_control` each hand it their own values.
+    // Two channels of one `with_step`: this and `moved_control` each hand it their own values. Both look at the command first: most subframes
+    // have none, and the two powers are worked out only where they judge a step.
     fn moved_data(
         &self,
         settings: Settings,
@@ -48,13 +45,18 @@ impl Cell {
     ) -> i16
         ensures { result ≡ moved_data settings self.now command want }
     {
-        moved_loop(
-            settings.loop_kind,
-            self.data_loop,
-            command,
-            DataValues::of(settings, self).raw_data(want),
-            settings.maximum.nanowatts(),
-        )
+        let Some(code) = command else {
+            return self.data_loop;
+        };
+        match settings.loop_kind {
+            LoopKind::Absolute => step(LoopKind::Absolute, code),
+            LoopKind::Accumulating => with_step(
+                self.data_loop,
+                step(LoopKind::Accumulating, code),
+                DataValues::of(settings, self).raw_data(want),
+                settings.maximum.nanowatts(),
+            ),
+        }
     }
 
     /// The control loop after the command that is due: it always accumulates.
@@ -66,10 +68,12 @@ impl Cell {
     ) -> i16
         ensures { result ≡ moved_control settings self.now command want }
     {
-        moved_loop(
-            LoopKind::Accumulating,
+        let Some(code) = command else {
+            return self.control_loop;
+        };
+        with_step(
             self.control_loop,
-            command,
+            step(LoopKind::Accumulating, code),
             ControlValues::of(settings, self).raw_control(want),
             settings.maximum.nanowatts(),
         )

@@ -1,5 +1,6 @@
 // The line of a record.
-ghost use Rattle.std.specs.Prelude.{◌≡◌, Some};
+ghost use Rattle.std.specs.Prelude.{◌≡◌, ◌==◌, IfSome, Some};
+ghost use Rattle.std.specs.List.{list_all};
 ghost use Rattle.std.specs.Fmt.{DisplaysOnOk};
 ghost use Rattle.recording.specs.declared.records.Record.TheVariants.{Shares, Want};
 ghost use Rattle.listing.specs.Lines.{shown_byte, shown_text, meant, bases_text, record_words, record_line};
@@ -16,6 +17,26 @@ fn shown_char(byte: u8) -> char
     }
 }
 
+/// Whether each byte is shown as it is.
+fn shows_all(bytes: &[u8]) -> bool
+    ensures { result ≡ list_all (λ b. shown_byte b == b) bytes.now }
+{
+    bytes
+        .iter()
+        .all(|byte| shown_char(*byte) == char::from(*byte))
+}
+
+/// A note's text as it stands, where each of its bytes is shown as it is.
+#[tactic(auto, using(crate::proofs::Shown::as_it_stands))]
+fn shown_whole(bytes: &[u8]) -> Option<&str>
+    ensures { IfSome result (λ text. text.now ≡ shown_text bytes.now) }
+{
+    match str::from_utf8(bytes) {
+        Ok(text) if shows_all(bytes) => Some(text),
+        _ => None,
+    }
+}
+
 /// A note's text; a byte that is not printable is shown as `?`.
 #[derive(Clone, Copy)]
 struct NoteText<'a>(&'a [u8]);
@@ -24,6 +45,10 @@ impl fmt::Display for NoteText<'_> {
     ghost output = { λ note. Some (shown_text note.0.now) };
 
     fn fmt<W: fmt::Write>(&self, f: &mut fmt::Formatter<W>) -> fmt::Result {
+        // So is every note that was read: its text is written at once.
+        if let Some(text) = shown_whole(self.0) {
+            return f.write_str(text);
+        }
         for byte in self.0 {
             f.write_char(shown_char(*byte))?;
         }

@@ -58,7 +58,14 @@ impl<'a> Cursor<'a> {
         ensures same_place { self.new.place ≡ self.old.place }
         ensures answer { with_rest self.new.rest.now result ≡ number_at self.old.place self.old.rest.now }
     {
-        self.read_groups(5)
+        // Most numbers have one group: those are read here, with no call.
+        match self.rest {
+            [group, rest @ ..] if *group < 128 => {
+                self.rest = rest;
+                Ok(u32::from(*group))
+            }
+            _ => self.read_groups(5),
+        }
     }
 
     /// The next `size` bytes.

@@ -9,7 +9,7 @@ use sharing::Group;
 use std::marker::Model;
 
 /// The number of a cell: 0 to 7.
-#[derive(Clone, Copy)]
+#[derive(Clone, Copy, Debug, PartialEq, Eq)]
 pub struct CellNumber {
     number: u32,
 }
